@@ -1,0 +1,36 @@
+-- How a refusal's line names its code and its quantity.
+use Rattle.std.specs.Prelude.{ℕ, List, codes}
+use Rattle.rc_keys.specs.declared.code.Code.{Code}
+use Rattle.rc_keys.specs.declared.code.Code.TheVariants.{E01, E02, E03, E04, E05, E06, E07, E08, E09, E10, E11, E12, E13, E14, E15, E16}
+use Rattle.rc_keys.specs.declared.code.Quantity.{Quantity}
+use Rattle.rc_keys.specs.declared.code.Quantity.TheVariants.{Bytes, Layers, Cuts, Nets, Comps, Pins, Shapes, Nodes, Tiles, Coords}
+
+abbrev pub code_name : Code → List ℕ
+code_name E01 = codes "E01"
+code_name E02 = codes "E02"
+code_name E03 = codes "E03"
+code_name E04 = codes "E04"
+code_name E05 = codes "E05"
+code_name E06 = codes "E06"
+code_name E07 = codes "E07"
+code_name E08 = codes "E08"
+code_name E09 = codes "E09"
+code_name E10 = codes "E10"
+code_name E11 = codes "E11"
+code_name E12 = codes "E12"
+code_name E13 = codes "E13"
+code_name E14 = codes "E14"
+code_name E15 = codes "E15"
+code_name E16 = codes "E16"
+
+abbrev pub quantity_name : Quantity → List ℕ
+quantity_name Bytes = codes "bytes"
+quantity_name Layers = codes "layers"
+quantity_name Cuts = codes "cuts"
+quantity_name Nets = codes "nets"
+quantity_name Comps = codes "comps"
+quantity_name Pins = codes "pins"
+quantity_name Shapes = codes "shapes"
+quantity_name Nodes = codes "nodes"
+quantity_name Tiles = codes "tiles"
+quantity_name Coords = codes "coords"

@@ -1,0 +1,8 @@
+//! Why an input is refused: codes, quantities, refusals and the fault type of all readers.
+#![tactic(auto)]
+
+mod code;
+mod fault;
+
+pub use code::{Code, Quantity};
+pub use fault::{Fault, Refusal};
