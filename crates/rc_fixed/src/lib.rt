@@ -3,6 +3,7 @@
 
 mod decimal;
 mod fault;
+mod laws;
 mod list;
 mod memory;
 mod text;
@@ -10,6 +11,7 @@ mod units;
 
 pub use decimal::{Fixed, digits};
 pub use fault::NumFault;
+pub use laws::{decimal_is_plain, decimal_reads_back, decimal_tells_apart};
 pub use list::List;
 pub use memory::NoMemory;
 pub use text::Text;

@@ -1,15 +1,15 @@
 use Rattle.std.proofs.Common.{List, ◌≡◌, ◌/◌, ◌<◌, ◌≤◌, ◌^◌, ℕ, length, ap, arith, ◌∙◌}
 use Rattle.std.specs.Fmt.{decimal}
-use Rattle.std.proofs.Math.Nat.{div-lt_iff_lt-mul}
 use Rattle.std.proofs.lemmas.Fmt.{length-decimal-le_wide}
 use Rattle.rc_fixed.proofs.Behind.{behind_point}
+use Rattle.rc_fixed.proofs.Reading.{whole_part-lt}
 use Rattle.rc_fixed.proofs.decimal.digits.Goals as goal
 
 -- the digits before the point are at most 24
-length-whole : (n : ℕ) (bytes : List ℕ) → n < 2 ^ 128 → bytes ≡ decimal (n / 1000000000000000) → length bytes ≤ 24
-length-whole n bytes small is =
-    let less : n / 1000000000000000 < 10 ^ 24 = (div-lt_iff_lt-mul {k = 1000000000000000} {x = n} {y = 10 ^ 24} (omega arith)).1 (omega arith) in
-    rw is (length-decimal-le_wide 24 (n / 1000000000000000) (omega arith) less (omega arith))
+length-whole : (value : ℕ) (bytes : List ℕ) → value < 2 ^ 128 → bytes ≡ decimal (value / 10 ^ 15) → length bytes ≤ 24
+length-whole value bytes small is =
+    let low : value / 10 ^ 15 < 10 ^ 24 = whole_part-lt value small in
+    rw is (length-decimal-le_wide 24 (value / 10 ^ 15) (omega arith) low (omega arith))
 
 pub write_behind-requires-clause-room : goal.write_behind-requires-clause-room
 write_behind-requires-clause-room c = omega (arith, length-whole c.args.value.0 _ (omega arith) (c.as_bytes-whole.ensures.value ∙ c.format.ensures.text))
