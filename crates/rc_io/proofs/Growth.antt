@@ -1,5 +1,5 @@
 -- Appending to what a sink holds.
-use Rattle.std.proofs.Common.{take-add, append-nil, append_assoc, ◌≡◌, ◌+◌, ◌++◌, ◌∙◌, ℕ, List, [], Option, Some, None, take, drop, refl, ap, sym}
+use Rattle.std.proofs.Common.{take-add, append-nil, append_assoc, ◌≡◌, ◌+◌, ◌∙◌, ℕ, List, Option, Some, None, take, drop, refl, ap, sym}
 use Rattle.rc_io.specs.Bytes.{grown, GrowsByNothing, GrowsByBoth}
 
 -- appending nothing changes nothing

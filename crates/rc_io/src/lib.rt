@@ -5,11 +5,21 @@
 #![tactic(auto)]
 
 mod files;
+mod gather;
+mod laws;
+mod mem_files;
+mod mem_sink;
 mod read;
+mod real;
 mod sink;
 mod write;
 
 pub use files::{Failed, Files};
+pub use gather::Gather;
+pub use laws::growth_adds_up;
+pub use mem_files::MemFiles;
+pub use mem_sink::MemSink;
 pub use read::{ReadEnd, read_whole};
+pub use real::{RealFiles, RealSink};
 pub use sink::Sink;
 pub use write::{WriteFault, write_all};

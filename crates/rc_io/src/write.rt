@@ -1,4 +1,4 @@
-ghost use Rattle.std.specs.Prelude.{◌≡◌, [], OnOk, OnErr};
+ghost use Rattle.std.specs.Prelude.{◌≡◌, [], OnOk};
 ghost use Rattle.rc_io.specs.Causes.{HasCause};
 ghost use Rattle.rc_io.specs.Bytes.{grown, GrewByPrefix};
 
