@@ -1,0 +1,31 @@
+ghost use Rattle.std.specs.Prelude.{◌≡◌, [], OnOk};
+ghost use Rattle.rc_io.specs.Causes.{HasCause};
+ghost use Rattle.rc_io.specs.Bytes.{grown, GrewByPrefix};
+
+use crate::Sink;
+
+/// Not all bytes were written, for the sink failed.
+#[derive(Clone, Copy, Debug, PartialEq, Eq)]
+pub struct WriteFault;
+
+/// Appends all the bytes to the sink, in as many writes as it takes. Where there are none, it makes no call.
+///
+/// # Errors
+///
+/// `WriteFault` at the first write that fails, and so only where the sink's count of faults rose. Some first
+/// bytes were appended by then, and nothing else.
+pub fn write_all<K: Sink>(sink: &mut K, bytes: &[u8]) -> Result<(), WriteFault>
+    ensures all { OnOk result (K.written sink.new ≡ grown (K.written sink.old) bytes.now) }
+    ensures prefix { GrewByPrefix (K.written sink.old) (K.written sink.new) bytes.now }
+    ensures none { bytes.now ≡ [] → sink.new ≡ sink.old }
+    ensures cause { HasCause (K.faults sink.old) (K.faults sink.new) result }
+{
+    let mut at = 0;
+    while at < bytes.len() {
+        match sink.write(&bytes[at..]) {
+            Ok(count) => at += count,
+            Err(_) => return Err(WriteFault),
+        }
+    }
+    Ok(())
+}
