@@ -8,3 +8,4 @@ pub mod Rates
 pub mod Parts
 pub mod Sums
 pub mod Extraction
+pub mod Laws

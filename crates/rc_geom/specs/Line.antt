@@ -28,13 +28,17 @@ column plane layer x = line_of plane layer 1 x
 abbrev pub mirror : Line → Line
 mirror line z = line (neg_ℤ z)
 
--- what stands at each distance from a place, in one direction
+-- the place at a distance, up the line or down
+abbrev pub at_distance : Bool → ℤ → ℕ → ℤ
+at_distance true z k = z +ℤ pos k
+at_distance false z k = z -ℤ pos k
+
+-- the metal at each distance from a place in one direction, and that of a line
 abbrev pub Ray : Type 0
 Ray = ℕ → Option Metal
 
 abbrev pub ray : Bool → Line → ℤ → Ray
-ray true line z k = line (z +ℤ pos k)
-ray false line z k = line (z -ℤ pos k)
+ray up line z k = line (at_distance up z k)
 
 -- a side's axis, and whether its direction is up
 abbrev pub axis_of : Side → ℕ

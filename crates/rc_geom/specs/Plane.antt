@@ -22,9 +22,13 @@ abbrev pub lesser : Option Tile → Tile → Tile
 lesser None t = t
 lesser (Some best) t = if nat_lt t.rank best.rank then t else best
 
+-- the owner among some tiles, and among one more
+abbrev pub claimed : ℕ → Pt → Option Tile → Tile → Option Tile
+claimed layer p best t = if claims layer p t then Some (lesser best t) else best
+
 -- of the tiles that cover the square on that layer, the one of least rank, the first among equals
 abbrev pub owner : List Tile → ℕ → Pt → Option Tile
-owner tiles layer p = fold (λ best t. if claims layer p t then Some (lesser best t) else best) None tiles
+owner tiles layer p = fold (claimed layer p) None tiles
 
 -- each square has the net and node of its owner
 abbrev pub plane_of : List Tile → Plane

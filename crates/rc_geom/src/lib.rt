@@ -6,6 +6,7 @@
 #![tactic(auto)]
 
 mod key;
+pub mod laws;
 mod midpoint;
 mod rect;
 mod tile;
