@@ -1,0 +1,5 @@
+pub mod Tests
+pub mod Commons
+pub mod Midpoints
+pub mod Owners
+pub mod Rays

@@ -1,0 +1,11 @@
+pub mod Rects
+pub mod Split
+pub mod Plane
+pub mod Line
+pub mod Faces
+pub mod Context
+pub mod Rates
+pub mod Parts
+pub mod Sums
+pub mod Extraction
+pub mod Laws

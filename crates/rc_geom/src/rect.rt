@@ -1,0 +1,88 @@
+ghost use Rattle.std.specs.Prelude.{◌≡◌, ◌↔◌, IsTrue, MatchOption};
+ghost use Rattle.std.specs.Int.{int_max, int_min};
+ghost use Rattle.rc_geom.specs.Rects.{common as common_of, has_squares as has_squares_of, has_points as has_points_of, SharesSquare, IsLowestCommon, IsApart};
+
+/// A point, or the unit square that has it as its lower left corner. Coordinates are in units of the layout.
+#[derive(Clone, Copy, Debug, PartialEq, Eq)]
+pub struct Pt {
+    pub x: i32,
+    pub y: i32,
+}
+
+/// A rectangle: `x0` is below `x1`, and `y0` below `y1`.
+///
+/// Its unit squares are those with lower left corner (x, y), where `x0 <= x < x1` and `y0 <= y < y1`.
+#[derive(Clone, Copy, Debug, PartialEq, Eq)]
+pub struct Rect {
+    pub x0: i32,
+    pub y0: i32,
+    pub x1: i32,
+    pub y1: i32,
+}
+
+fn greater(a: i32, b: i32) -> i32
+    ensures { result ≡ int_max a b }
+{
+    if b < a { a } else { b }
+}
+
+fn lesser(a: i32, b: i32) -> i32
+    ensures { result ≡ int_min a b }
+{
+    if b < a { b } else { a }
+}
+
+/// The common part of two rectangles; its ends are out of order where they have none.
+fn common(a: Rect, b: Rect) -> Rect
+    ensures { result ≡ common_of a b }
+{
+    Rect {
+        x0: greater(a.x0, b.x0),
+        y0: greater(a.y0, b.y0),
+        x1: lesser(a.x1, b.x1),
+        y1: lesser(a.y1, b.y1),
+    }
+}
+
+/// Whether a unit square lies between the ends of a rectangle.
+fn has_squares(r: Rect) -> bool
+    ensures { result ≡ has_squares_of r }
+{
+    r.x0 < r.x1 && r.y0 < r.y1
+}
+
+/// Whether a point lies between the ends of a rectangle, the ends included.
+fn has_points(r: Rect) -> bool
+    ensures { result ≡ has_points_of r }
+{
+    r.x0 <= r.x1 && r.y0 <= r.y1
+}
+
+/// The lower left corner.
+fn corner(r: Rect) -> Pt
+    ensures x { result.x ≡ r.x0 }
+    ensures y { result.y ≡ r.y0 }
+{
+    Pt { x: r.x0, y: r.y0 }
+}
+
+/// Whether some unit square lies in both rectangles.
+#[tactic(auto, using(crate::proofs::Commons::shares_square))]
+pub fn meets(a: Rect, b: Rect) -> bool
+    ensures { IsTrue result ↔ SharesSquare a b }
+{
+    has_squares(common(a, b))
+}
+
+/// The lower left corner of the common part of two closed rectangles, edges and corners included; None where they have
+/// no common point.
+pub fn meets_closed(a: Rect, b: Rect) -> Option<Pt>
+    ensures { MatchOption result (IsApart a b) (IsLowestCommon a b) }
+{
+    let part = common(a, b);
+    if has_points(part) {
+        Some(corner(part))
+    } else {
+        None
+    }
+}
