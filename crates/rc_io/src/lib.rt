@@ -12,6 +12,8 @@ mod mem_sink;
 mod read;
 mod real;
 mod sink;
+#[cfg(test)]
+mod tests;
 mod write;
 
 pub use files::{Failed, Files};
