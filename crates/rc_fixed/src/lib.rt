@@ -6,6 +6,8 @@ mod fault;
 mod laws;
 mod list;
 mod memory;
+#[cfg(test)]
+mod tests;
 mod text;
 mod units;
 
