@@ -1,0 +1,14 @@
+pub mod Command
+pub mod Cut
+pub mod Numbers
+pub mod Phrases
+pub mod TechForm
+pub mod DesignForm
+pub mod RuleForm
+pub mod Layout
+pub mod Rate
+pub mod Parasitics
+pub mod SpefText
+pub mod Outcome
+pub mod Answers
+pub mod Work

@@ -1,0 +1,9 @@
+//! The program: what it does with its words, its files and its streams.
+#![tactic(auto)]
+
+mod command;
+mod line;
+mod top;
+mod work;
+
+pub use top::run;

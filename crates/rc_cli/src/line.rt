@@ -1,0 +1,32 @@
+ghost use Rattle.std.specs.Prelude.{◌≡◌, ◌≢◌, ◌⊎◌, ◌≤◌, ◌++◌, codes, IfOk, OnOk};
+ghost use Rattle.rc_io.specs.Causes.{Rose};
+ghost use Rattle.rc_io.specs.Bytes.{grown, GrewByPrefix};
+ghost use Rattle.rc_cli.specs.Answers.{read_fault_line as read_fault_line_of};
+
+use rc_fixed::{NoMemory, Text};
+use rc_io::{Sink, write_all};
+use std::alloc::Global;
+
+/// The line of a file that failed.
+pub fn read_fault_line(alloc: Global, name: &str) -> Result<Text, NoMemory>
+    ensures { IfOk result (λ line. line ≡ read_fault_line_of name.now) }
+{
+    let mut line = Vec::from_slice(alloc, b"rcx: read fault ")?;
+    line.extend_from_slice(name.as_bytes())?;
+    line.push(b'\n')?;
+    Ok(Text::from_vec(line))
+}
+
+/// Writes the line of a status, and answers that status, or 4 where the sink failed.
+pub fn tell<E: Sink>(err: &mut E, status: u8, line: &[u8]) -> u8
+    requires { status ≢ 4 }
+    ensures status { (result ≡ status) ⊎ (result ≡ 4) }
+    ensures whole { result ≡ status → E.written err.new ≡ grown (E.written err.old) line.now }
+    ensures prefix { GrewByPrefix (E.written err.old) (E.written err.new) line.now }
+    ensures fault { result ≡ 4 → Rose (E.faults err.old) (E.faults err.new) }
+{
+    match write_all(err, line) {
+        Ok(()) => status,
+        Err(_) => 4,
+    }
+}

@@ -1,0 +1,83 @@
+ghost use Rattle.std.specs.Prelude.{◌≡◌, ◌⊎◌, ◌<◌, List, ℕ, Option, Some, None, map, IsTrue};
+ghost use Rattle.std.specs.String.{string_bytes};
+ghost use Rattle.rc_io.specs.Causes.{Rose};
+ghost use Rattle.rc_cli.specs.Command.{Extract as Asked, extract_of};
+ghost use Rattle.rc_cli.specs.Outcome.{Course, Missing, Refused, Done, outcome};
+ghost use Rattle.rc_cli.specs.Answers.{sinks, sources, OutKept, ErrKept, WroteText, WroteLine, NoFileFailed, IsTold, IsReadFault, ComesTo, IsCutText, IsCutLine, usage_line, no_memory_line, read_fault_line};
+
+use crate::command::Extract;
+use crate::line::{read_fault_line, tell};
+use crate::work::{Stop, work};
+use rc_fixed::NoMemory;
+use rc_io::{Files, Sink, WriteFault, write_all};
+use std::alloc::Global;
+use std::thread::Threads;
+
+/// Does all that the program does, and answers its status.
+pub fn run<R: Threads + Sync, F: Files, O: Sink, E: Sink>(
+    _rt: &R,
+    alloc: Global,
+    words: &[String],
+    files: &mut F,
+    out: &mut O,
+    err: &mut E,
+) -> u8
+    ensures statuses { result < 6 }
+
+    // 1: the words have no listed form.
+    ensures usage { result ≡ 1 → (extract_of (map string_bytes words.now) ≡ None)
+        × WroteLine (sinks (O.written out.old) (O.written out.new) (E.written err.old) (E.written err.new)) usage_line }
+    ensures listed { extract_of (map string_bytes words.now) ≡ None → (result ≡ 1) ⊎ (result ≡ 4) ⊎ (result ≡ 5) }
+
+    // 0: all was done.
+    ensures done { result ≡ 0 → IsTrue (F.tells files.old) → (text : List ℕ)
+        × ComesTo (sources (F.tells files.old) (F.text files.old) (F.faults files.old) (F.faults files.new)) (map string_bytes words.now) (Done text)
+        × WroteText (sinks (O.written out.old) (O.written out.new) (E.written err.old) (E.written err.new)) text }
+    ensures quiet { result ≡ 0 → E.written err.new ≡ E.written err.old }
+
+    // 2: the first refusal.
+    ensures refused { result ≡ 2 → IsTrue (F.tells files.old) → (line : List ℕ)
+        × ComesTo (sources (F.tells files.old) (F.text files.old) (F.faults files.old) (F.faults files.new)) (map string_bytes words.now) (Refused line)
+        × WroteLine (sinks (O.written out.old) (O.written out.new) (E.written err.old) (E.written err.new)) line }
+    ensures refused_without_text { result ≡ 2 → O.written out.new ≡ O.written out.old }
+
+    // 3: a file of the words failed, and nothing before it is missing or refused.
+    ensures read_fault { result ≡ 3 → (asked : Asked) × (name : List ℕ)
+        × (extract_of (map string_bytes words.now) ≡ Some asked)
+        × IsReadFault (sources (F.tells files.old) (F.text files.old) (F.faults files.old) (F.faults files.new)) asked name
+        × WroteLine (sinks (O.written out.old) (O.written out.new) (E.written err.old) (E.written err.new)) (read_fault_line name) }
+
+    // 4: a sink failed, after a front of the very text, or of a line that has its cause.
+    ensures write_fault { result ≡ 4
+        → IsCutText (sources (F.tells files.old) (F.text files.old) (F.faults files.old) (F.faults files.new))
+        (sinks (O.written out.old) (O.written out.new) (E.written err.old) (E.written err.new)) (map string_bytes words.now) (O.faults out.old) (O.faults out.new)
+        ⊎ IsCutLine (sources (F.tells files.old) (F.text files.old) (F.faults files.old) (F.faults files.new))
+        (sinks (O.written out.old) (O.written out.new) (E.written err.old) (E.written err.new)) (map string_bytes words.now) (E.faults err.old) (E.faults err.new) }
+
+    // 5: memory ran out.
+    ensures memory { result ≡ 5
+        → WroteLine (sinks (O.written out.old) (O.written out.new) (E.written err.old) (E.written err.new)) no_memory_line }
+
+    // What the words and the files come to is told, unless a file or a sink fails or memory runs out.
+    ensures complete { (asked : Asked) → extract_of (map string_bytes words.now) ≡ Some asked → IsTrue (F.tells files.old)
+        → NoFileFailed (sources (F.tells files.old) (F.text files.old) (F.faults files.old) (F.faults files.new)) asked
+        → ¬ Rose (O.faults out.old) (O.faults out.new) → ¬ Rose (E.faults err.old) (E.faults err.new)
+        → IsTold (sinks (O.written out.old) (O.written out.new) (E.written err.old) (E.written err.new)) (outcome (F.text files.old) asked) result
+        ⊎ (result ≡ 5) }
+{
+    let Some(asked) = Extract::from_words(words) else {
+        return tell(err, 1, b"rcx: usage\n");
+    };
+    match work(alloc, files, &asked) {
+        Ok(text) => match write_all(out, text.bytes()) {
+            Ok(()) => 0,
+            Err(WriteFault) => 4,
+        },
+        Err(Stop::Refused(line)) => tell(err, 2, line.bytes()),
+        Err(Stop::Fault(word)) => match read_fault_line(alloc, asked.name(word)) {
+            Ok(line) => tell(err, 3, line.bytes()),
+            Err(NoMemory) => tell(err, 5, b"rcx: no memory\n"),
+        },
+        Err(Stop::NoMemory) => tell(err, 5, b"rcx: no memory\n"),
+    }
+}
