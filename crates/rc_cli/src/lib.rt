@@ -6,4 +6,5 @@ mod line;
 mod top;
 mod work;
 
+pub use line::{tell_no_memory, tell_usage};
 pub use top::run;

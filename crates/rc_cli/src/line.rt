@@ -1,7 +1,7 @@
 ghost use Rattle.std.specs.Prelude.{◌≡◌, ◌≢◌, ◌⊎◌, ◌≤◌, ◌++◌, codes, IfOk, OnOk};
 ghost use Rattle.rc_io.specs.Causes.{Rose};
 ghost use Rattle.rc_io.specs.Bytes.{grown, GrewByPrefix};
-ghost use Rattle.rc_cli.specs.Answers.{read_fault_line as read_fault_line_of};
+ghost use Rattle.rc_cli.specs.Answers.{read_fault_line as read_fault_line_of, usage_line, no_memory_line};
 
 use rc_fixed::{NoMemory, Text};
 use rc_io::{Sink, write_all};
@@ -15,6 +15,26 @@ pub fn read_fault_line(alloc: Global, name: &str) -> Result<Text, NoMemory>
     line.extend_from_slice(name.as_bytes())?;
     line.push(b'\n')?;
     Ok(Text::from_vec(line))
+}
+
+/// Tells that the words have no listed form, and answers the status.
+pub fn tell_usage<E: Sink>(err: &mut E) -> u8
+    ensures status { (result ≡ 1) ⊎ (result ≡ 4) }
+    ensures whole { result ≡ 1 → E.written err.new ≡ grown (E.written err.old) usage_line }
+    ensures prefix { GrewByPrefix (E.written err.old) (E.written err.new) usage_line }
+    ensures fault { result ≡ 4 → Rose (E.faults err.old) (E.faults err.new) }
+{
+    tell(err, 1, b"rcx: usage\n")
+}
+
+/// Tells that memory ran out, and answers the status.
+pub fn tell_no_memory<E: Sink>(err: &mut E) -> u8
+    ensures status { (result ≡ 5) ⊎ (result ≡ 4) }
+    ensures whole { result ≡ 5 → E.written err.new ≡ grown (E.written err.old) no_memory_line }
+    ensures prefix { GrewByPrefix (E.written err.old) (E.written err.new) no_memory_line }
+    ensures fault { result ≡ 4 → Rose (E.faults err.old) (E.faults err.new) }
+{
+    tell(err, 5, b"rcx: no memory\n")
 }
 
 /// Writes the line of a status, and answers that status, or 4 where the sink failed.

@@ -6,7 +6,7 @@ ghost use Rattle.rc_cli.specs.Outcome.{Course, Missing, Refused, Done, outcome};
 ghost use Rattle.rc_cli.specs.Answers.{sinks, sources, OutKept, ErrKept, WroteText, WroteLine, NoFileFailed, IsTold, IsReadFault, ComesTo, IsCutText, IsCutLine, usage_line, no_memory_line, read_fault_line};
 
 use crate::command::Extract;
-use crate::line::{read_fault_line, tell};
+use crate::line::{read_fault_line, tell, tell_no_memory, tell_usage};
 use crate::work::{Stop, work};
 use rc_fixed::NoMemory;
 use rc_io::{Files, Sink, WriteFault, write_all};
@@ -66,7 +66,7 @@ pub fn run<R: Threads + Sync, F: Files, O: Sink, E: Sink>(
         ⊎ (result ≡ 5) }
 {
     let Some(asked) = Extract::from_words(words) else {
-        return tell(err, 1, b"rcx: usage\n");
+        return tell_usage(err);
     };
     match work(alloc, files, &asked) {
         Ok(text) => match write_all(out, text.bytes()) {
@@ -76,8 +76,8 @@ pub fn run<R: Threads + Sync, F: Files, O: Sink, E: Sink>(
         Err(Stop::Refused(line)) => tell(err, 2, line.bytes()),
         Err(Stop::Fault(word)) => match read_fault_line(alloc, asked.name(word)) {
             Ok(line) => tell(err, 3, line.bytes()),
-            Err(NoMemory) => tell(err, 5, b"rcx: no memory\n"),
+            Err(NoMemory) => tell_no_memory(err),
         },
-        Err(Stop::NoMemory) => tell(err, 5, b"rcx: no memory\n"),
+        Err(Stop::NoMemory) => tell_no_memory(err),
     }
 }

@@ -10,8 +10,8 @@ returns-in-Err-Refused-clause-refused g c = λ two told.
       c.in-Err-Refused.line,
       (c.in-Some.asked, sym c.from_words.ensures ∙ c.in-Some.is, stopped),
       record {
-        out = refl;
-        err = c.tell-in-Err-Refused.ensures.whole two ∙ ap (grown (g.E.Sink.written c.args.err.now)) c.bytes-in-Err-Refused.ensures;
+        out = refl {a = g.O.Sink.written c.args.out.now};
+        err = c.tell.ensures.whole two ∙ ap (grown (g.E.Sink.written c.args.err.now)) c.bytes-in-Err-Refused.ensures;
       },
     )
 
@@ -25,7 +25,7 @@ returns-in-Ok-read_fault_line-clause-read_fault g c = λ three.
       sym c.from_words.ensures ∙ c.in-Some.is,
       stopped,
       record {
-        out = refl;
+        out = refl {a = g.O.Sink.written c.args.out.now};
         err = c.tell-in-Ok-read_fault_line.ensures.whole three ∙ ap (grown (g.E.Sink.written c.args.err.now)) line;
       },
     )
@@ -37,6 +37,6 @@ returns-in-Ok-read_fault_line-clause-write_fault g c = λ four.
     c.bytes-in-Ok-read_fault_line.ensures ∙ c.in-Ok-read_fault_line.ensures ∙ ap read_fault_line c.name.ensures in
     inr (record {
       rose = c.tell-in-Ok-read_fault_line.ensures.fault four;
-      out = refl;
+      out = refl {a = g.O.Sink.written c.args.out.now};
       front = (c.bytes-in-Ok-read_fault_line.result.now, inr (inr (inl (c.in-Some.asked, file_name c.in-Some.asked c.in-Err-Fault.word, sym c.from_words.ensures ∙ c.in-Some.is, line, stopped))), c.tell-in-Ok-read_fault_line.ensures.prefix);
     })
