@@ -1,5 +1,5 @@
 -- The words of a text.
-use Rattle.std.specs.Prelude.{ℕ, Bool, true, false, not, ◌&&◌, ◌||◌, ◌==◌, List, [], ◌∷◌, nat_le, filter}
+use Rattle.std.specs.Prelude.{◌≡◌, ◌<◌, length, ℕ, Bool, true, false, not, ◌&&◌, ◌||◌, ◌==◌, List, [], ◌∷◌, nat_le, filter}
 use Rattle.std.specs.List.{slice_split, list_all}
 
 -- tab, line feed, carriage return and space
@@ -21,3 +21,8 @@ is_some_word (first ∷ rest) = true
 -- what stands between the blanks of a text, in order
 unfoldable pub words_of : List ℕ → List (List ℕ)
 words_of text = filter is_some_word (slice_split is_blank text)
+
+-- a word, and the text behind it
+pub record IsFirstWord (text word rest : List ℕ) : Type 0 where
+  pub words : words_of text ≡ word ∷ words_of rest
+  pub shorter : length rest < length text

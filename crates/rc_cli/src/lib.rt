@@ -3,7 +3,10 @@
 
 mod command;
 mod line;
+mod number;
+mod tech;
 mod top;
+mod words;
 mod work;
 
 pub use line::{tell_no_memory, tell_usage};

@@ -1,6 +1,7 @@
 ghost use Rattle.std.specs.Prelude.{◌≡◌, ◌≢◌, ◌⊎◌, ◌≤◌, ◌++◌, codes, IfOk, OnOk};
 ghost use Rattle.rc_io.specs.Causes.{Rose};
 ghost use Rattle.rc_io.specs.Bytes.{grown, GrewByPrefix};
+ghost use Rattle.rc_cli.specs.Outcome.{form_line as form_line_of};
 ghost use Rattle.rc_cli.specs.Answers.{read_fault_line as read_fault_line_of, usage_line, no_memory_line};
 
 use rc_fixed::{NoMemory, Text};
@@ -14,6 +15,16 @@ pub fn read_fault_line(alloc: Global, name: &str) -> Result<Text, NoMemory>
     let mut line = Vec::from_slice(alloc, b"rcx: read fault ")?;
     line.extend_from_slice(name.as_bytes())?;
     line.push(b'\n')?;
+    Ok(Text::from_vec(line))
+}
+
+/// The line of a file that hasn't the reduced form.
+pub fn form_line(alloc: Global, name: &str) -> Result<Text, NoMemory>
+    ensures { IfOk result (λ line. line ≡ form_line_of name.now) }
+{
+    let mut line = Vec::from_slice(alloc, b"rcx: E04 ")?;
+    line.extend_from_slice(name.as_bytes())?;
+    line.extend_from_slice(b" 1\n")?;
     Ok(Text::from_vec(line))
 }
 

@@ -1,0 +1,4 @@
+pub mod Cutting
+pub mod Fronts
+pub mod Points
+pub mod Courses
