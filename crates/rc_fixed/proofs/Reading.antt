@@ -40,7 +40,7 @@ digits_value_after-is n (c ∷ cs) =
     omega arith
 
 -- the first digit has the weight of its place
-digits_value-cons : (c : ℕ) (cs : List ℕ) → digits_value 10 (c ∷ cs) ≡ digit_value c * 10 ^ length cs + digits_value 10 cs
+pub digits_value-cons : (c : ℕ) (cs : List ℕ) → digits_value 10 (c ∷ cs) ≡ digit_value c * 10 ^ length cs + digits_value 10 cs
 digits_value-cons c cs =
     let none : 0 + digit_value c ≡ digit_value c = omega arith in
     digits_value_after-is (0 + digit_value c) cs ∙ ap (λ m. m * 10 ^ length cs + digits_value 10 cs) none
@@ -87,7 +87,7 @@ last_digit d left digits none some last big (suc k) is =
     elim (cases_eq left 0) [ inl ended ↦ absurd (omega (arith, ap length (none ended))) | inr more ↦ last more k (omega arith) ]
 
 -- a number that is multiplied out by places
-weigh : (d x y v : ℕ) → (d * x + v) * y ≡ d * (x * y) + v * y
+pub weigh : (d x y v : ℕ) → (d * x + v) * y ≡ d * (x * y) + v * y
 weigh d x y v = grind arith
 
 writes_more : (places rest : ℕ) (digits : List ℕ) → rest ≢ 0 → SplitsFirst places rest → WritesRest places (rest % 10 ^ places) digits → WritesRest (suc places) rest ((48 + rest / 10 ^ places) ∷ digits)
@@ -180,11 +180,11 @@ whole_part-lt : (value : ℕ) → value < 2 ^ 128 → value / 10 ^ 15 < 10 ^ 24
 whole_part-lt value small = (div-lt_iff_lt-mul {k = 10 ^ 15} {x = value} {y = 10 ^ 24} (omega arith)).1 (omega arith)
 
 -- a whole number has no point
-text_whole : (value : ℕ) → value % 10 ^ 15 ≡ 0 → decimal_text value ≡ decimal (value / 10 ^ 15)
+pub text_whole : (value : ℕ) → value % 10 ^ 15 ≡ 0 → decimal_text value ≡ decimal (value / 10 ^ 15)
 text_whole value none = ap (λ rest. decimal (value / 10 ^ 15) ++ fraction_text rest) none ∙ append-nil (decimal (value / 10 ^ 15))
 
 -- any other has one
-text_pointed : (value : ℕ) → value % 10 ^ 15 ≢ 0 → decimal_text value ≡ decimal (value / 10 ^ 15) ++ 46 ∷ digits_behind 15 (value % 10 ^ 15)
+pub text_pointed : (value : ℕ) → value % 10 ^ 15 ≢ 0 → decimal_text value ≡ decimal (value / 10 ^ 15) ++ 46 ∷ digits_behind 15 (value % 10 ^ 15)
 text_pointed value some = ap (λ ds. decimal (value / 10 ^ 15) ++ ds) (fraction_text-pointed (value % 10 ^ 15) some)
 
 pub reads_back : ReadsBack

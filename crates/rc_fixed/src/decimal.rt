@@ -1,4 +1,4 @@
-ghost use Rattle.std.specs.Prelude.{◌≡◌, ◌+◌, ◌<◌, ◌≤◌, ◌^◌, ◌++◌, drop, take};
+ghost use Rattle.std.specs.Prelude.{◌≡◌, ◌+◌, ◌<◌, ◌≤◌, ◌^◌, ◌++◌, drop, length, take};
 ghost use Rattle.std.specs.Fmt.{decimal};
 ghost use Rattle.rc_fixed.specs.Decimal.{decimal_text, fraction_text};
 
@@ -11,13 +11,14 @@ pub struct Fixed(pub u128);
 /// One, in units of 10^-15.
 const ONE: u128 = 1_000_000_000_000_000;
 
-/// Writes the exact decimal of the value at the front of the buffer, and answers its length in bytes.
+/// Writes the exact decimal of the value at the front of `out`, and answers its length in bytes.
 ///
 /// It has a digit before the point, no zeros at its end, no point where the value is whole, and no
-/// exponent. What stands behind it in the buffer stays.
+/// exponent. What stands behind it in `out` stays.
 #[tactic(auto, using(crate::proofs::Behind::same_past))]
 pub fn digits(value: Fixed, out: &mut [u8; 48]) -> usize
-    ensures length { result ≤ 48 }
+    ensures within { result ≤ 48 }
+    ensures length { result ≡ length (decimal_text value.0) }
     ensures text { take result out.new ≡ decimal_text value.0 }
     ensures behind { drop result out.new ≡ drop result out.old }
 {
@@ -38,8 +39,8 @@ fn put_whole(whole: u128, out: &mut [u8; 48]) -> usize
     text.len()
 }
 
-/// Writes the point and the digits of `rest` / 10^15 behind it from `at` on, or nothing where there is
-/// no rest, and answers where they end.
+/// Writes from `at` on the point and behind it the digits of `rest` / 10^15, or nothing where `rest`
+/// is 0, and answers where they end.
 fn put_fraction(rest: u64, out: &mut [u8; 48], at: usize) -> usize
     requires rest { rest < 10 ^ 15 }
     requires room { at ≤ 24 }
