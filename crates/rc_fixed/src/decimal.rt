@@ -17,9 +17,9 @@ const ONE: u128 = 1_000_000_000_000_000;
 /// exponent. What stands behind it in `out` stays.
 #[tactic(auto, using(crate::proofs::Behind::same_past))]
 pub fn digits(value: Fixed, out: &mut [u8; 48]) -> usize
-    ensures within { result ≤ 48 }
-    ensures length { result ≡ length (decimal_text value.0) }
     ensures text { take result out.new ≡ decimal_text value.0 }
+    ensures length { result ≡ length (decimal_text value.0) }
+    ensures within { result ≤ 48 }
     ensures behind { drop result out.new ≡ drop result out.old }
 {
     let end = put_whole(value.0 / ONE, out);
