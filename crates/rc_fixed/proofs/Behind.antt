@@ -1,12 +1,11 @@
 -- The digits behind a point, one place after another.
 use Rattle.std.proofs.Math.ListN.{set}
 use Rattle.std.proofs.Math.Nat.{pow-suc, mod-lt, mul-div_cancel, div-lt_iff_lt-mul, pow-le-pow_right}
-use Rattle.std.proofs.Common.{◌≡◌, ◌≢◌, ◌+◌, ◌*◌, ◌/◌, ◌%◌, ◌<◌, ◌≤◌, ◌^◌, ◌++◌, [], ◌∷◌, List, ℕ, zero, suc, take, drop, length, cond, refl, sym, ap, ◌∙◌, append_assoc, arith, subst}
+use Rattle.std.proofs.Common.{◌≡◌, ◌≢◌, ◌+◌, ◌-◌, ◌*◌, ◌/◌, ◌%◌, ◌<◌, ◌≤◌, ◌^◌, ◌++◌, [], ◌∷◌, List, ℕ, zero, suc, take, drop, length, cond, refl, sym, ap, ◌∙◌, append_assoc, arith, subst}
 use Rattle.std.proofs.lemmas.Grind.{take-set_at}
 use Rattle.std.proofs.lemmas.List.{drop-set-lt, drop-drop}
-use Rattle.std.proofs.lemmas.Slice.{drop-append-drop}
 use Rattle.std.proofs.lemmas.Bool.{ne_eqb}
-use Rattle.rc_fixed.specs.Decimal.{digits_behind}
+use Rattle.rc_fixed.specs.Decimal.{digits_behind, fraction_text}
 
 -- a power of ten isn't 0
 pub pow_ten-pos : (k : ℕ) → 0 < 10 ^ k
@@ -22,6 +21,10 @@ digits_behind-zero (suc places) = refl
 pub digits_behind-suc : (places rest : ℕ) → rest ≢ 0 → digits_behind (suc places) rest ≡ (48 + rest / 10 ^ places) ∷ digits_behind places (rest % 10 ^ places)
 unfolding digits_behind
 digits_behind-suc places rest some = ap (λ b. cond b [] ((48 + rest / 10 ^ places) ∷ digits_behind places (rest % 10 ^ places))) (ne_eqb rest 0 some)
+
+-- a fraction has a point
+pub fraction_text-pointed : (rest : ℕ) → rest ≢ 0 → fraction_text rest ≡ 46 ∷ digits_behind 15 rest
+fraction_text-pointed rest some = ap (λ b. cond b [] (46 ∷ digits_behind 15 rest)) (ne_eqb rest 0 some)
 
 -- where something is left, so is a place
 pub some_place : (places rest unit : ℕ) → unit ≡ 10 ^ places → rest < unit → rest ≢ 0 → 1 ≤ places
@@ -59,6 +62,8 @@ pub same_behind : (out before : List ℕ) (end byte : ℕ) → drop end out ≡ 
 same_behind out before end byte same =
     drop-set-lt (end + 1) out end byte (omega arith) ∙ (sym (drop-drop 1 end out) ∙ (ap (drop 1) same ∙ drop-drop 1 end before))
 
--- nor do bytes at the front, and one at their end
-pub behind_point : (out whole : List ℕ) (end byte n : ℕ) → length whole ≡ end → end < n → drop n (set (whole ++ drop end out) end byte) ≡ drop n out
-behind_point out whole end byte n is past = drop-set-lt n (whole ++ drop end out) end byte past ∙ drop-append-drop end out whole n (omega arith) is
+-- what stays behind one place stays behind each later one
+pub same_past : (out before : List ℕ) (end n : ℕ) → end ≤ n → drop end out ≡ drop end before → drop n out ≡ drop n before
+same_past out before end n past same =
+    let is : end + (n - end) ≡ n = omega arith in
+    ap (λ k. drop k out) (sym is) ∙ (sym (drop-drop (n - end) end out) ∙ (ap (drop (n - end)) same ∙ (drop-drop (n - end) end before ∙ ap (λ k. drop k before) is)))

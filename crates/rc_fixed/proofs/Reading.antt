@@ -1,6 +1,6 @@
 -- What a written decimal reads as, and what its form is.
 use Rattle.std.proofs.Math.Nat.{pow-suc, mod-lt, div-add-mod, div-lt_iff_lt-mul, mul_comm}
-use Rattle.std.proofs.Common.{◌≡◌, ◌≢◌, ◌+◌, ◌-◌, ◌*◌, ◌/◌, ◌%◌, ◌<◌, ◌≤◌, ◌^◌, ◌++◌, [], ◌∷◌, List, ℕ, zero, suc, take, drop, length, get_or, cond, false, refl, sym, ap, ◌∙◌, append-nil, arith, subst, inl, inr, length-append}
+use Rattle.std.proofs.Common.{◌≡◌, ◌≢◌, ◌+◌, ◌-◌, ◌*◌, ◌/◌, ◌%◌, ◌<◌, ◌≤◌, ◌^◌, ◌++◌, [], ◌∷◌, List, ℕ, zero, suc, take, drop, length, get_or, false, refl, sym, ap, ◌∙◌, append-nil, arith, subst, inl, inr, length-append}
 use Rattle.std.proofs.Math.Seq.{drop-append-add}
 use Rattle.std.proofs.lemmas.Bool.{ne_eqb, cases_eq}
 use Rattle.std.proofs.lemmas.List.{take_at, take_all, drop_all, get_or_at, get_or_append_left}
@@ -16,7 +16,7 @@ use Rattle.std.specs.List.{position_or_len}
 use Rattle.std.specs.Str.Parse.{AllDigits, digits_value, digits_value_after}
 use Rattle.rc_fixed.specs.Decimal.{digits_behind, fraction_text, decimal_text, decimal_value, worth_behind, is_point, IsWholePart, ReadsBack, TellsApart, IsPlain}
 use Rattle.rc_fixed.specs.Decimal.IsPlainDecimal.{whole, pointed}
-use Rattle.rc_fixed.proofs.Behind.{pow_ten-pos, digits_behind-zero, digits_behind-suc}
+use Rattle.rc_fixed.proofs.Behind.{fraction_text-pointed, pow_ten-pos, digits_behind-zero, digits_behind-suc}
 
 -- the digit of a number below ten has its value
 digit_value-written : (d : ℕ) → d < 10 → digit_value (48 + d) ≡ d
@@ -40,7 +40,7 @@ digits_value_after-is n (c ∷ cs) =
     omega arith
 
 -- the first digit has the weight of its place
-digits_value-cons : (c : ℕ) (cs : List ℕ) → digits_value 10 (c ∷ cs) ≡ digit_value c * 10 ^ length cs + digits_value 10 cs
+pub digits_value-cons : (c : ℕ) (cs : List ℕ) → digits_value 10 (c ∷ cs) ≡ digit_value c * 10 ^ length cs + digits_value 10 cs
 digits_value-cons c cs =
     let none : 0 + digit_value c ≡ digit_value c = omega arith in
     digits_value_after-is (0 + digit_value c) cs ∙ ap (λ m. m * 10 ^ length cs + digits_value 10 cs) none
@@ -87,7 +87,7 @@ last_digit d left digits none some last big (suc k) is =
     elim (cases_eq left 0) [ inl ended ↦ absurd (omega (arith, ap length (none ended))) | inr more ↦ last more k (omega arith) ]
 
 -- a number that is multiplied out by places
-weigh : (d x y v : ℕ) → (d * x + v) * y ≡ d * (x * y) + v * y
+pub weigh : (d x y v : ℕ) → (d * x + v) * y ≡ d * (x * y) + v * y
 weigh d x y v = grind arith
 
 writes_more : (places rest : ℕ) (digits : List ℕ) → rest ≢ 0 → SplitsFirst places rest → WritesRest places (rest % 10 ^ places) digits → WritesRest (suc places) rest ((48 + rest / 10 ^ places) ∷ digits)
@@ -176,16 +176,16 @@ whole_part n small =
     }
 
 -- a number of 128 bits has at most 24 digits before the point
-pub whole_part-lt : (value : ℕ) → value < 2 ^ 128 → value / 10 ^ 15 < 10 ^ 24
+whole_part-lt : (value : ℕ) → value < 2 ^ 128 → value / 10 ^ 15 < 10 ^ 24
 whole_part-lt value small = (div-lt_iff_lt-mul {k = 10 ^ 15} {x = value} {y = 10 ^ 24} (omega arith)).1 (omega arith)
 
 -- a whole number has no point
-text_whole : (value : ℕ) → value % 10 ^ 15 ≡ 0 → decimal_text value ≡ decimal (value / 10 ^ 15)
+pub text_whole : (value : ℕ) → value % 10 ^ 15 ≡ 0 → decimal_text value ≡ decimal (value / 10 ^ 15)
 text_whole value none = ap (λ rest. decimal (value / 10 ^ 15) ++ fraction_text rest) none ∙ append-nil (decimal (value / 10 ^ 15))
 
 -- any other has one
-text_pointed : (value : ℕ) → value % 10 ^ 15 ≢ 0 → decimal_text value ≡ decimal (value / 10 ^ 15) ++ 46 ∷ digits_behind 15 (value % 10 ^ 15)
-text_pointed value some = ap (λ b. decimal (value / 10 ^ 15) ++ cond b [] (46 ∷ digits_behind 15 (value % 10 ^ 15))) (ne_eqb (value % 10 ^ 15) 0 some)
+pub text_pointed : (value : ℕ) → value % 10 ^ 15 ≢ 0 → decimal_text value ≡ decimal (value / 10 ^ 15) ++ 46 ∷ digits_behind 15 (value % 10 ^ 15)
+text_pointed value some = ap (λ ds. decimal (value / 10 ^ 15) ++ ds) (fraction_text-pointed (value % 10 ^ 15) some)
 
 pub reads_back : ReadsBack
 reads_back value small =

@@ -58,3 +58,7 @@ TellsApart = (a b : ℕ) → a < 2 ^ 128 → b < 2 ^ 128 → decimal_text a ≡ 
 -- what is written is plain, and at most 48 bytes
 abbrev pub IsPlain : Type 0
 IsPlain = (value : ℕ) → value < 2 ^ 128 → IsPlainDecimal (decimal_text value) × (length (decimal_text value) ≤ 48)
+
+-- a plain decimal is what is written for the number that it reads as: no number has a second one
+abbrev pub WritesBack : Type 0
+WritesBack = (text : List ℕ) → IsPlainDecimal text → decimal_value text < 2 ^ 128 → decimal_text (decimal_value text) ≡ text

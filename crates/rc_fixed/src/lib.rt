@@ -13,7 +13,7 @@ mod units;
 
 pub use decimal::{Fixed, digits};
 pub use fault::NumFault;
-pub use laws::{decimal_is_plain, decimal_reads_back, decimal_tells_apart};
+pub use laws::{decimal_is_plain, decimal_reads_back, decimal_tells_apart, decimal_writes_back};
 pub use list::List;
 pub use memory::NoMemory;
 pub use text::Text;
