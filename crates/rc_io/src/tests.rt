@@ -159,7 +159,7 @@ fn what_is_written_is_gathered(rt: HostRuntime) -> Result<(), Fail> {
     write_all(&mut sink, b"*SPEF ")?;
     write_all(&mut sink, b"")?;
     write_all(&mut sink, b"\"IEEE 1481-1998\"\n")?;
-    assert!(rt; sink.bytes() == b"*SPEF \"IEEE 1481-1998\"\n");
+    assert!(rt; sink.bytes() == "*SPEF \"IEEE 1481-1998\"\n".as_bytes());
     assert_eq!(rt; sink.faults(), 0);
     Ok(())
 }
@@ -187,6 +187,8 @@ fn real_files_are_read(rt: HostRuntime) -> Result<(), Fail> {
             "{name}"
         );
     }
+    fs::remove_dir(&rt, "folder")?;
+    fs::remove_file(&rt, "a.lef")?;
     Ok(())
 }
 
@@ -197,6 +199,7 @@ fn real_streams_are_written(rt: HostRuntime) -> Result<(), Fail> {
     write_all(&mut sink, CONTENT.as_bytes())?;
     assert_eq!(rt; sink.faults(), 0);
     assert_eq!(rt; fs::read_to_string(&rt, "out.spef")?.as_str(), CONTENT);
+    fs::remove_file(&rt, "out.spef")?;
 
     let mut room = [0u8; 5];
     let mut sink = RealSink::new(&mut room[..]);
