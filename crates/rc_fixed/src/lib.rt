@@ -1,10 +1,20 @@
 //! Exact numbers, and the texts and lists that the other crates hold their values in.
 #![tactic(auto)]
 
+mod decimal;
+mod fault;
+mod laws;
 mod list;
 mod memory;
+#[cfg(test)]
+mod tests;
 mod text;
+mod units;
 
+pub use decimal::{Fixed, digits};
+pub use fault::NumFault;
+pub use laws::{decimal_is_plain, decimal_reads_back, decimal_tells_apart, decimal_writes_back};
 pub use list::List;
 pub use memory::NoMemory;
 pub use text::Text;
+pub use units::{is_units, per_unit};

@@ -1,0 +1,5 @@
+use Rattle.rc_fixed.proofs.Reading.{reads_back}
+use Rattle.rc_fixed.proofs.laws.decimal_reads_back.Goals as goal
+
+pub returns : goal.returns
+returns c = reads_back
