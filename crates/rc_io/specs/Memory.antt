@@ -1,5 +1,5 @@
 -- What the files and the sinks in memory hold.
-use Rattle.std.specs.Prelude.{ℕ, Bool, ◌≡◌, ◌-◌, ◌++◌, List, [], Option, Some, None, length, min, option_map, drop, position, slice_get, slice_index, slice_set}
+use Rattle.std.specs.Prelude.{ℕ, ◌≡◌, ◌-◌, ◌++◌, List, [], Option, Some, None, length, min, option_map, drop, position, slice_get, slice_index, slice_set}
 use Rattle.std.specs.Option.{option_map_or}
 use Rattle.std.specs.Str.{bytes_eq}
 use Rattle.rc_io.specs.Causes.{next_count}
@@ -84,8 +84,3 @@ after_fault held (Some place) = record held { counts = slice_set held.counts pla
 -- the file at a place stands at its front
 abbrev pub after_begin : FilesInMemory → Option ℕ → FilesInMemory
 after_begin held place = record held { begun = place; done = 0 }
-
--- what is known of files that tell nothing: whether one is open, and how often they failed
-pub record OpenFiles : Type 0 where
-  pub is_open : Bool
-  pub faults : ℕ

@@ -1,4 +1,4 @@
-ghost use Rattle.std.specs.Prelude.{◌≡◌, ◌≢◌, ◌+◌, ◌<◌, ◌≤◌, ◌^◌, ◌++◌, List, ℕ, Some, None, length, IsTrue, IfOk, OnOk, IsErrOf};
+ghost use Rattle.std.specs.Prelude.{◌≡◌, ◌≢◌, ◌+◌, ◌<◌, ◌≤◌, ◌^◌, ◌++◌, List, ℕ, Some, None, length, IsTrue, IfOk, OnOk, OnErr, IsErrOf};
 ghost use Rattle.rc_io.specs.Causes.{Rose};
 
 use crate::Files;
@@ -48,7 +48,7 @@ pub fn read_whole<F: Files>(
         Ok(()) => {}
         Err(_) => return Err(ReadEnd::Fault),
     }
-    let mut buffer = vec![in alloc; 0; PIECE].map_err(|_| ReadEnd::NoMemory)?;
+    let mut buffer = new_buffer(alloc)?;
     let mut bytes = Vec::new(alloc);
     'reads: loop {
         match files.read(&mut buffer) {
@@ -57,6 +57,14 @@ pub fn read_whole<F: Files>(
             Err(_) => return Err(ReadEnd::Fault),
         }
     }
+}
+
+/// The bytes that one read fills.
+fn new_buffer(alloc: Global) -> Result<Vec<u8>, ReadEnd>
+    ensures some { IfOk result (λ buffer. 0 < length buffer.items) }
+    ensures cause { OnErr result (result ≡ Err ReadEnd.NoMemory) }
+{
+    vec![in alloc; 0; PIECE].map_err(|_| ReadEnd::NoMemory)
 }
 
 /// Appends a piece where no more than `room` bytes are held then.

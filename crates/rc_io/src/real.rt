@@ -1,4 +1,5 @@
 ghost use Rattle.std.specs.Prelude.{◌≡◌, ◌↔◌, ◌<◌, ◌≤◌, [], List, ℕ, false, None, length, IfOk, OnOk, OnErr, IsTrue};
+ghost use Rattle.std.specs.Io.KnownBytes.{ReadConsumes, WriteAppends};
 ghost use Rattle.rc_io.specs.Causes.{HasCause, Rose, next_count};
 
 use crate::{Failed, Files, Sink};
@@ -18,12 +19,12 @@ pub struct RealFiles<'a, R: rt::Files> {
 }
 
 impl<'a, R: rt::Files> Model for RealFiles<'a, R> {
-    ghost use Rattle.std.specs.Prelude.{is_some};
-    ghost use Rattle.rc_io.specs.Memory.{OpenFiles};
+    ghost use Rattle.std.specs.Prelude.{is_some, option_and_then};
+    ghost use Rattle.rc_io.specs.Streams.{OpenFile};
 
-    ghost Value = { OpenFiles };
+    ghost Value = { OpenFile };
 
-    ghost view = { λ files. record { is_open = is_some files.file; faults = files.faults } };
+    ghost view = { λ files. record { is_open = is_some files.file; left = option_and_then R.File.remaining files.file; faults = files.faults } };
 }
 
 impl<'a, R: rt::Files> RealFiles<'a, R> {
@@ -87,8 +88,9 @@ impl<'a, R: rt::Files> Files for RealFiles<'a, R> {
         ensures later { self.old.faults ≤ self.new.faults }
         ensures cause { OnErr result (Rose self.old.faults self.new.faults) }
 
-        ensures reads { OnOk result (self.new ≡ self.old) }
-        ensures counts { OnErr result (self.new ≡ record self.old { faults = next_count self.old.faults }) }
+        ensures file { ReadConsumes self.old.left self.new.left result buffer.new }
+        ensures reads { OnOk result (self.new.faults ≡ self.old.faults) }
+        ensures counts { OnErr result (self.new.faults ≡ next_count self.old.faults) }
     {
         let Some(file) = &mut self.file else {
             unreachable!();
@@ -105,17 +107,17 @@ impl<'a, R: rt::Files> Files for RealFiles<'a, R> {
 
 /// A file or a standard stream as a sink. It doesn't tell what it holds.
 #[derive(Drop)]
-pub struct RealSink<W> {
+pub struct RealSink<W: Write> {
     stream: W,
     faults: u64,
 }
 
-impl<W> Model for RealSink<W> {
-    ghost use Rattle.std.specs.Prelude.{ℕ};
+impl<W: Write> Model for RealSink<W> {
+    ghost use Rattle.rc_io.specs.Streams.{OpenStream};
 
-    ghost Value = { ℕ };
+    ghost Value = { OpenStream };
 
-    ghost view = { λ sink. sink.faults };
+    ghost view = { λ sink. record { held = W.contents sink.stream; faults = sink.faults } };
 }
 
 impl<W: Write> RealSink<W> {
@@ -126,7 +128,7 @@ impl<W: Write> RealSink<W> {
 
     /// How often it has failed.
     pub fn faults(&self) -> u64
-        ensures { result ≡ self.now }
+        ensures { result ≡ self.now.faults }
     {
         self.faults
     }
@@ -135,17 +137,18 @@ impl<W: Write> RealSink<W> {
 impl<W: Write> Sink for RealSink<W> {
     ghost written = { λ sink. None };
 
-    ghost faults = { λ sink. sink };
+    ghost faults = { λ sink. sink.faults };
 
     /// Writes to the stream. At every error, and where the stream takes nothing, the count is raised by one.
     fn write(&mut self, piece: &[u8]) -> Result<usize, Failed>
         requires { 0 < length piece.now }
         ensures some { IfOk result (λ count. 0 < count) }
         ensures count { IfOk result (λ count. count ≤ length piece.now) }
-        ensures cause { HasCause self.old self.new result }
+        ensures cause { HasCause self.old.faults self.new.faults result }
 
-        ensures writes { OnOk result (self.new ≡ self.old) }
-        ensures counts { OnErr result (self.new ≡ next_count self.old) }
+        ensures stream { WriteAppends self.old.held self.new.held result piece.now }
+        ensures writes { OnOk result (self.new.faults ≡ self.old.faults) }
+        ensures counts { OnErr result (self.new.faults ≡ next_count self.old.faults) }
     {
         match self.stream.write(piece) {
             Ok(count) if 0 < count => Ok(count),

@@ -1,6 +1,6 @@
-ghost use Rattle.std.specs.Prelude.{◌≡◌, [], OnOk};
+ghost use Rattle.std.specs.Prelude.{◌≡◌, [], IsOk, OnOk, OnErr};
 ghost use Rattle.rc_io.specs.Causes.{HasCause};
-ghost use Rattle.rc_io.specs.Bytes.{grown, GrewByPrefix};
+ghost use Rattle.rc_io.specs.Bytes.{grown, GrewByPrefix, GrewByLess};
 
 use crate::Sink;
 
@@ -13,11 +13,13 @@ pub struct WriteFault;
 /// # Errors
 ///
 /// `WriteFault` at the first write that fails, and so only where the sink's count of faults rose. Some first
-/// bytes were appended by then, and nothing else.
+/// bytes, but not all, were appended by then, and nothing else.
 pub fn write_all<K: Sink>(sink: &mut K, bytes: &[u8]) -> Result<(), WriteFault>
     ensures all { OnOk result (K.written sink.new ≡ grown (K.written sink.old) bytes.now) }
     ensures prefix { GrewByPrefix (K.written sink.old) (K.written sink.new) bytes.now }
+    ensures cut { OnErr result (GrewByLess (K.written sink.old) (K.written sink.new) bytes.now) }
     ensures none { bytes.now ≡ [] → sink.new ≡ sink.old }
+    ensures nothing { bytes.now ≡ [] → IsOk result }
     ensures cause { HasCause (K.faults sink.old) (K.faults sink.new) result }
 {
     let mut at = 0;
