@@ -242,3 +242,9 @@ sight_is_mutual cap reach line up z face d metal is sees =
     subst Good
     (sym (ap (option_map (face_with cap reach (ray (not up) line there) (ray (not (not up)) line there))) net_ends))
     (refl, sight_is reach (ray (not up) line there) d face.own (seen_back reach line up z d face.own metal first.0 seen))
+
+-- where there is no metal there is no face
+pub no_face : (cap reach : ℕ) (line : Line) (up : Bool) (z : ℤ) → line z ≡ None → face_at cap reach line up z ≡ None
+no_face cap reach line up z bare =
+    ap (λ (o : Option Metal). option_map (face_with cap reach (ray up line z) (ray (not up) line z)) (option_and_then (λ (own : Metal). cond (is_net own.0 (ray up line z 1)) None (Some own)) o))
+    (ray-start line up z ∙ bare)
