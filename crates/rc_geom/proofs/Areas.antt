@@ -1,7 +1,7 @@
 -- Sums over the squares of rectangles.
-use Rattle.std.proofs.Common.{◌≡◌, ◌≤◌, ◌<◌, ◌+◌, ◌⊎◌, inl, inr, ⊎_elim, ℕ, zero, suc, ℤ, pos, ◌≤ℤ◌, ◌<ℤ◌, Bool, true, false, List, [], Option, Some, None, refl, ap, sym, ◌∙◌, subst, arith}
-use Rattle.std.specs.Prelude.{option_map, MatchOption, All, Contains}
-use Rattle.std.specs.Option.{option_map_or, option_and_then}
+use Rattle.std.proofs.Common.{◌≡◌, ◌+◌, ◌⊎◌, ⊎_elim, ℕ, zero, suc, ℤ, ◌≤ℤ◌, ◌<ℤ◌, Bool, true, false, List, [], Option, Some, None, refl, ap, sym, ◌∙◌, arith}
+use Rattle.std.specs.Prelude.{option_map, MatchOption, All}
+use Rattle.std.specs.Option.{option_map_or}
 use Rattle.std.specs.Int.{int_max, int_min}
 use Rattle.std.proofs.lemmas.Int.{ints, clamps}
 use Rattle.std.proofs.lemmas.Bool.{false_from_ne_true, true≢false, and_parts}
@@ -11,16 +11,15 @@ use Rattle.rc_geom.specs.declared.rect.Rect.{Rect}
 use Rattle.rc_geom.specs.declared.tile.Tile.{Tile}
 use Rattle.rc_geom.specs.declared.key.Key.{Key}
 use Rattle.rc_geom.specs.Rects.{covers, IsInside}
-use Rattle.rc_geom.specs.Plane.{Metal, Plane, claims, owner, plane_of, HoldsTiles, HoldsMetal}
-use Rattle.rc_geom.specs.Line.{Line, Ray, ray, square_of, line_of, at_distance}
-use Rattle.rc_geom.specs.Faces.{Face, face_at, end_of, is_net}
+use Rattle.rc_geom.specs.Plane.{Metal, Plane, claims, owner, HoldsTiles}
+use Rattle.rc_geom.specs.Line.{square_of, line_of}
 use Rattle.rc_geom.specs.Rates.{Rates, rate_of}
-use Rattle.rc_geom.specs.Parts.{Part, parts, worth_at}
-use Rattle.rc_geom.specs.Sums.{Adding, IsNeutral, numbers, total, total_between, first_line, end_line, first_place, end_place, both_directions, layer_sum, square_sum}
+use Rattle.rc_geom.specs.Parts.{parts, worth_at}
+use Rattle.rc_geom.specs.Sums.{Adding, IsNeutral, numbers, total_between, first_line, end_line, first_place, end_place, both_directions, layer_sum}
 use Rattle.rc_geom.specs.Context.{layer_count}
-use Rattle.rc_geom.specs.Extraction.{face_of, parts_of, sum_in, value_in, count_in, key_value, key_count}
+use Rattle.rc_geom.specs.Extraction.{parts_of, value_in, count_in}
 use Rattle.rc_geom.specs.Laws.{IsOwner, InnerSumsSuffice, TilesHoldMetal, MetalBounds, ValuesAreBounded}
-use Rattle.rc_geom.proofs.Tests.{Covered, covered, covers_from}
+use Rattle.rc_geom.proofs.Bounds.{covered, covers_from}
 use Rattle.rc_geom.proofs.Owners.{owners_are_least}
 use Rattle.rc_geom.proofs.Rays.{no_face}
 use Rattle.rc_geom.proofs.Totals.{total_same, total_between_nothing, total_between_same, total_within}

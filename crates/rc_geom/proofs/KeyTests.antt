@@ -1,11 +1,11 @@
 -- Keys: their test, and what two metals share.
-use Rattle.std.proofs.Common.{◌≡◌, ◌≢◌, ◌≤◌, ◌<◌, ◌⊎◌, inl, inr, ⊎_elim, ℕ, zero, suc, Bool, true, false, cond, Option, Some, None, refl, ap, sym, ◌∙◌, subst, arith}
-use Rattle.std.specs.Prelude.{IsTrue, ◌↔◌, nat_lt, ◌==◌, ◌&&◌}
+use Rattle.std.proofs.Common.{◌≡◌, ◌≢◌, ◌<◌, ⊎_elim, Bool, true, false, cond, Some, None, refl, ap, sym, ◌∙◌, subst, arith}
+use Rattle.std.specs.Prelude.{◌==◌, ◌&&◌}
 use Rattle.std.proofs.lemmas.Bool.{and_parts, and_from, eqb-true, eq-eqb, lt-ltb, le-ltb, cases_order}
 use Rattle.rc_geom.specs.declared.key.Key.{Key}
 use Rattle.rc_geom.specs.declared.key.Key.TheVariants.{Ground, Pair}
 use Rattle.rc_geom.specs.Plane.{Metal}
-use Rattle.rc_geom.specs.Parts.{node_key, pair_key, shared_key, same_key}
+use Rattle.rc_geom.specs.Parts.{pair_key, same_key}
 use Rattle.rc_geom.specs.Laws.{IsInOrder, SharesAreMutual, KeysAreTold}
 
 pub one_key : (a b : Key) → same_key a b ≡ true → a ≡ b

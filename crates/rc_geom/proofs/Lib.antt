@@ -1,4 +1,4 @@
-pub mod Tests
+pub mod Bounds
 pub mod Commons
 pub mod Midpoints
 pub mod Owners

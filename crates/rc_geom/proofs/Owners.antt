@@ -1,6 +1,6 @@
 -- The owner of a square.
-use Rattle.std.proofs.Common.{◌≡◌, ◌≢◌, ◌≤◌, ◌<◌, ◌+◌, ◌⊎◌, inl, inr, ⊎_elim, ℕ, zero, suc, Bool, true, false, cond, List, [], ◌∷◌, ◌++◌, length, get_or, Option, Some, None, refl, ap, sym, ◌∙◌, subst, arith}
-use Rattle.std.specs.Prelude.{All, Any, Contains, MatchOption, IsTrue, nat_lt, ◌==◌, ◌&&◌, option_map, fold}
+use Rattle.std.proofs.Common.{◌≡◌, ◌≢◌, ◌≤◌, ◌<◌, ⊎_elim, ℕ, suc, Bool, true, false, cond, List, [], ◌∷◌, ◌++◌, length, get_or, Option, Some, None, refl, ap, sym, ◌∙◌, subst, arith}
+use Rattle.std.specs.Prelude.{All, Contains, MatchOption, nat_lt, ◌==◌, option_map, fold}
 use Rattle.std.specs.List.Sorted.{IsPermutation}
 use Rattle.std.proofs.lemmas.List.{get_or_default}
 use Rattle.std.proofs.lemmas.List.Elements.{All-nil, All-cons, All-weaker, All-contains, Contains-append_cases}
@@ -9,10 +9,9 @@ use Rattle.std.proofs.lemmas.List.Sums.{fold-append}
 use Rattle.std.proofs.lemmas.Bool.{and_parts, eqb-true, cases_eq, cases_order, ltb-true, ltb-false, true≢false}
 use Rattle.std.proofs.lemmas.Bool.Decides.{nat_tests}
 use Rattle.rc_geom.specs.declared.rect.Pt.{Pt}
-use Rattle.rc_geom.specs.declared.rect.Rect.{Rect}
 use Rattle.rc_geom.specs.declared.tile.Tile.{Tile}
 use Rattle.rc_geom.specs.Rects.{covers}
-use Rattle.rc_geom.specs.Plane.{Metal, claims, lesser, claimed, owner, plane_of, Overlaps, RanksDiffer, NetsApart, NeverOwns}
+use Rattle.rc_geom.specs.Plane.{claims, lesser, claimed, owner, Overlaps, RanksDiffer, NetsApart, NeverOwns}
 use Rattle.rc_geom.specs.Laws.{IsOwner, OwnersAreLeast, OrderIsFree, OwnersSuffice}
 
 -- of two owners the one of less rank, the first where they tie

@@ -1,10 +1,10 @@
 -- Totals over numbers that are counted up.
-use Rattle.std.proofs.Common.{◌≡◌, ◌≤◌, ◌<◌, ◌+◌, ◌-◌, ◌⊎◌, inl, inr, ⊎_elim, ℕ, zero, suc, ℤ, pos, negsuc, ◌+ℤ◌, ◌-ℤ◌, ◌≤ℤ◌, ◌<ℤ◌, [], ◌∷◌, ◌++◌, map, refl, ap, sym, ◌∙◌, subst, arith, map-id, add-one}
+use Rattle.std.proofs.Common.{◌≡◌, ◌≤◌, ◌<◌, ◌+◌, ◌⊎◌, inl, inr, ℕ, zero, suc, ℤ, pos, negsuc, ◌+ℤ◌, ◌-ℤ◌, ◌≤ℤ◌, ◌<ℤ◌, [], ◌∷◌, ◌++◌, refl, ap, sym, ◌∙◌, arith, map-id}
 use Rattle.std.specs.List.{fold, range_with_len}
 use Rattle.std.proofs.lemmas.List.FromFn.{map-range_with_len_more}
 use Rattle.std.proofs.lemmas.List.Sums.{fold_push}
 use Rattle.std.proofs.lemmas.Int.{ints, by_lt_z}
-use Rattle.rc_geom.specs.Sums.{Adding, IsNeutral, IsAdditive, total, at_least_0, extent, total_between}
+use Rattle.rc_geom.specs.Sums.{Adding, IsNeutral, total, at_least_0, extent, total_between}
 
 -- one number more, counted up
 range_more : (n : ℕ) → range_with_len 0 (n + 1) ≡ range_with_len 0 n ++ n ∷ []

@@ -1,5 +1,5 @@
 -- What holds of the definitions themselves.
-use Rattle.std.specs.Prelude.{◌≡◌, ◌≢◌, ◌↔◌, ◌<◌, ◌≤◌, ◌+◌, ℕ, ℤ, neg_ℤ, Bool, true, false, not, List, ◌∷◌, ◌++◌, Option, Some, None, IsTrue, IfSome, IsSomeAnd, MatchOption, All, Contains}
+use Rattle.std.specs.Prelude.{◌≡◌, ◌≢◌, ◌↔◌, ◌<◌, ◌≤◌, ◌+◌, ℕ, ℤ, neg_ℤ, Bool, true, false, not, List, ◌∷◌, ◌++◌, Some, None, IsTrue, IfSome, IsSomeAnd, MatchOption, All, Contains}
 use Rattle.std.specs.List.Sorted.{IsPermutation}
 use Rattle.rc_geom.specs.declared.rect.Pt.{Pt}
 use Rattle.rc_geom.specs.declared.rect.Rect.{Rect}
