@@ -98,7 +98,7 @@ unowned r tiles layer p (Some t) holds out h =
 pub tiles_hold_metal : TilesHoldMetal
 tiles_hold_metal r tiles holds layer p out = unowned r tiles layer p (owner tiles layer p) holds out (owners_are_least tiles layer p)
 
-no_parts : {V : Type 0} (plane : Plane) (rates : Rates V) (axis layer : ℕ) (at along : ℤ) (up : Bool) → plane layer (square_of axis at along) ≡ None → parts_of plane rates axis layer at along up ≡ []
+pub no_parts : {V : Type 0} (plane : Plane) (rates : Rates V) (axis layer : ℕ) (at along : ℤ) (up : Bool) → plane layer (square_of axis at along) ≡ None → parts_of plane rates axis layer at along up ≡ []
 no_parts plane rates axis layer at along up bare =
     ap (λ o. option_map_or (λ face. parts face (rate_of rates plane layer (square_of axis at along) face)) o [])
     (no_face (rates.cap layer) (rates.reach layer) (line_of plane layer axis at) up along bare)

@@ -6,3 +6,6 @@ pub mod Rays
 pub mod Totals
 pub mod Areas
 pub mod KeyTests
+pub mod Nearest
+pub mod Cuts
+pub mod Halos

@@ -15,15 +15,15 @@ use Rattle.rc_geom.specs.Plane.{claims, lesser, claimed, owner, Overlaps, RanksD
 use Rattle.rc_geom.specs.Laws.{IsOwner, OwnersAreLeast, OrderIsFree, OwnersSuffice}
 
 -- of two owners the one of less rank, the first where they tie
-abbrev better : Option Tile → Option Tile → Option Tile
+abbrev pub better : Option Tile → Option Tile → Option Tile
 better best None = best
 better best (Some t) = Some (lesser best t)
 
 -- a tile as the only owner
-abbrev claim : ℕ → Pt → Tile → Option Tile
+abbrev pub claim : ℕ → Pt → Tile → Option Tile
 claim layer p t = cond (claims layer p t) (Some t) None
 
-better_none : (o : Option Tile) → better None o ≡ o
+pub better_none : (o : Option Tile) → better None o ≡ o
 better_none None = refl
 better_none (Some t) = refl
 

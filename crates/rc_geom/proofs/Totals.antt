@@ -7,7 +7,7 @@ use Rattle.std.proofs.lemmas.Int.{ints, by_lt_z}
 use Rattle.rc_geom.specs.Sums.{Adding, IsNeutral, total, at_least_0, extent, total_between}
 
 -- one number more, counted up
-range_more : (n : ℕ) → range_with_len 0 (n + 1) ≡ range_with_len 0 n ++ n ∷ []
+pub range_more : (n : ℕ) → range_with_len 0 (n + 1) ≡ range_with_len 0 n ++ n ∷ []
 range_more n = sym (map-id (range_with_len 0 (n + 1))) ∙ (map-range_with_len_more (λ k. k) 0 n n (omega arith) ∙ ap (λ xs. xs ++ n ∷ []) (map-id (range_with_len 0 n)))
 
 pub total_none : {V : Type 0} (adding : Adding V) (f : ℕ → V) → total adding 0 f ≡ adding.none
@@ -22,7 +22,7 @@ total_more adding n f =
 pub ruleset total_steps = (total_none, total_more)
 
 -- the step as an induction meets it
-total_suc : {V : Type 0} (adding : Adding V) (n m : ℕ) (f : ℕ → V) → m ≡ n + 1 → total adding m f ≡ adding.plus (total adding n f) (f n)
+pub total_suc : {V : Type 0} (adding : Adding V) (n m : ℕ) (f : ℕ → V) → m ≡ n + 1 → total adding m f ≡ adding.plus (total adding n f) (f n)
 total_suc adding n m f h = ap (λ (k : ℕ). total adding k f) h ∙ total_more adding n f
 
 pub total_same : {V : Type 0} (adding : Adding V) (n : ℕ) (f g : ℕ → V) → ((k : ℕ) → k < n → f k ≡ g k) → total adding n f ≡ total adding n g

@@ -1,18 +1,19 @@
 -- What holds of the definitions themselves.
-use Rattle.std.specs.Prelude.{◌≡◌, ◌≢◌, ◌↔◌, ◌<◌, ◌≤◌, ◌+◌, ℕ, ℤ, neg_ℤ, Bool, true, false, not, List, ◌∷◌, ◌++◌, Some, None, IsTrue, IfSome, IsSomeAnd, MatchOption, All, Contains}
+use Rattle.std.specs.Prelude.{◌≡◌, ◌≢◌, ◌↔◌, ◌<◌, ◌≤◌, ◌+◌, ℕ, ℤ, neg_ℤ, Bool, true, false, not, List, ◌∷◌, ◌++◌, Some, None, IsTrue, is_some, IfSome, IsSomeAnd, MatchOption, All, Contains, filter, ◌≤ℤ◌}
 use Rattle.std.specs.List.Sorted.{IsPermutation}
 use Rattle.rc_geom.specs.declared.rect.Pt.{Pt}
 use Rattle.rc_geom.specs.declared.rect.Rect.{Rect}
 use Rattle.rc_geom.specs.declared.tile.Tile.{Tile}
 use Rattle.rc_geom.specs.declared.key.Key.{Key}
 use Rattle.rc_geom.specs.declared.key.Key.TheVariants.{Ground, Pair}
-use Rattle.rc_geom.specs.Rects.{covers, IsInside}
+use Rattle.rc_geom.specs.Rects.{covers, grown, SharesSquare, IsInside}
 use Rattle.rc_geom.specs.Plane.{Metal, Plane, claims, owner, plane_of, RanksDiffer, NetsApart, NeverOwns, HoldsTiles, HoldsMetal}
 use Rattle.rc_geom.specs.Line.{Line, Ray, ray, mirror, at_distance, square_of}
 use Rattle.rc_geom.specs.Faces.{Face, face_at, is_net, thickness, sight}
+use Rattle.rc_geom.specs.Context.{layer_count, under, over}
 use Rattle.rc_geom.specs.Rates.{Rates}
 use Rattle.rc_geom.specs.Parts.{pair_key, shared_key, same_key}
-use Rattle.rc_geom.specs.Sums.{Adding, IsNeutral, square_sum}
+use Rattle.rc_geom.specs.Sums.{Adding, IsNeutral, IsAdditive, square_sum}
 use Rattle.rc_geom.specs.Extraction.{sum_in, key_value, key_count}
 
 -- the tile is one of them, covers the square, and none that covers it has a lesser rank
@@ -67,6 +68,32 @@ SightIsMutual = (cap reach : ℕ) (line : Line) (up : Bool) (z : ℤ) (face : Fa
     face_at cap reach line up z ≡ Some face → face.sight ≡ Some (d, metal) →
     IsSomeAnd (face_at cap reach line (not up) (at_distance up z (d + 1))) (λ other. (other.own ≡ metal) × (other.sight ≡ Some (d, face.own)))
 
+-- a lower layer has metal over the square, and none between does
+pub record IsUnder (plane : Plane) (layer : ℕ) (p : Pt) (l : ℕ) : Type 0 where
+  pub below : l < layer
+  pub metal : is_some (plane l p) ≡ true
+  pub nearest : (k : ℕ) → l < k → k < layer → plane k p ≡ None
+
+abbrev pub UnderIsHighest : Type 0
+UnderIsHighest = (plane : Plane) (layer : ℕ) (p : Pt) (l : ℕ) → (under plane layer p ≡ Some l) ↔ IsUnder plane layer p l
+
+-- a higher layer has metal over the square, and none between does
+pub record IsOver (plane : Plane) (layer : ℕ) (p : Pt) (l : ℕ) : Type 0 where
+  pub above : layer < l
+  pub within : l < layer_count
+  pub metal : is_some (plane l p) ≡ true
+  pub nearest : (k : ℕ) → layer < k → k < l → plane k p ≡ None
+
+abbrev pub OverIsLowest : Type 0
+OverIsLowest = (plane : Plane) (layer : ℕ) (p : Pt) (l : ℕ) → (over plane layer p ≡ Some l) ↔ IsOver plane layer p l
+
+-- a face rests on no squares but those at distances to reach + 1 before it, and below cap behind it
+abbrev pub FacesAreLocal : Type 0
+FacesAreLocal = (cap reach : ℕ) (line other : Line) (up : Bool) (z : ℤ) →
+    ((k : ℕ) → k ≤ reach + 1 → ray up line z k ≡ ray up other z k) →
+    ((k : ℕ) → k < cap → ray (not up) line z k ≡ ray (not up) other z k) →
+    face_at cap reach line up z ≡ face_at cap reach other up z
+
 -- where squares outside the inner rectangle add nothing, the outer one has the same sum
 abbrev pub InnerSumsSuffice : Type 0 → Type 0
 InnerSumsSuffice V = (adding : Adding V) (axis : ℕ) (inner outer : Rect) (f : ℕ → ℤ → ℤ → Bool → V) →
@@ -89,6 +116,32 @@ abbrev pub ValuesAreBounded : Type 0 → Type 0
 ValuesAreBounded V = (adding : Adding V) (plane : Plane) (rates : Rates V) (r s : Rect) (key : Key) →
     IsNeutral adding → HoldsMetal r plane → HoldsMetal s plane →
     (key_value adding plane rates r key ≡ key_value adding plane rates s key) × (key_count plane rates r key ≡ key_count plane rates s key)
+
+-- a sum over a rectangle is that of its two parts, cut at a column or at a row
+pub record IsCutAt {V : Type 0} (adding : Adding V) (axis : ℕ) (r : Rect) (f : ℕ → ℤ → ℤ → Bool → V) (z : ℤ) : Type 0 where
+  pub column : r.x0 ≤ℤ z → z ≤ℤ r.x1 → square_sum adding axis r f ≡ adding.plus (square_sum adding axis (record r { x1 = z }) f) (square_sum adding axis (record r { x0 = z }) f)
+  pub row : r.y0 ≤ℤ z → z ≤ℤ r.y1 → square_sum adding axis r f ≡ adding.plus (square_sum adding axis (record r { y1 = z }) f) (square_sum adding axis (record r { y0 = z }) f)
+
+abbrev pub CutsAdd : Type 0 → Type 0
+CutsAdd V = (adding : Adding V) (axis : ℕ) (r : Rect) (f : ℕ → ℤ → ℤ → Bool → V) (z : ℤ) → IsAdditive adding → IsCutAt adding axis r f z
+
+-- where a layer has metal in the window, its faces rest on squares within the halo
+abbrev pub HaloReaches : {V : Type 0} → Plane → Rates V → Rect → ℕ → Type 0
+HaloReaches plane rates window halo = (layer : ℕ) (p : Pt) → covers window p ≡ true → is_some (plane layer p) ≡ true → (rates.reach layer + 1 ≤ halo) × (rates.cap layer ≤ halo)
+
+-- planes that are alike in the window and its halo have the same sum over the window
+abbrev pub HalosSuffice : Type 0 → Type 0 → Type 0
+HalosSuffice V W = (adding : Adding W) (worth : V → W) (plane other : Plane) (rates : Rates V) (axis : ℕ) (window : Rect) (halo : ℕ) (key : Key) →
+    HaloReaches plane rates window halo →
+    ((layer : ℕ) (p : Pt) → covers (grown window halo) p ≡ true → plane layer p ≡ other layer p) →
+    sum_in adding worth plane rates axis window key ≡ sum_in adding worth other rates axis window key
+
+-- so the tiles that share no square with them can be left out
+abbrev pub NearTilesSuffice : Type 0 → Type 0 → Type 0
+NearTilesSuffice V W = (adding : Adding W) (worth : V → W) (tiles : List Tile) (keep : Tile → Bool) (rates : Rates V) (axis : ℕ) (window : Rect) (halo : ℕ) (key : Key) →
+    HaloReaches (plane_of tiles) rates window halo →
+    ((t : Tile) → SharesSquare t.rect (grown window halo) → keep t ≡ true) →
+    sum_in adding worth (plane_of tiles) rates axis window key ≡ sum_in adding worth (plane_of (filter keep tiles)) rates axis window key
 
 -- a key stands for one node or for two, and a pair's nets are in order
 abbrev pub IsInOrder : Key → Type 0

@@ -1,5 +1,5 @@
 -- Rectangles, and the unit squares and points in them. A unit square is named by its lower left corner.
-use Rattle.std.specs.Prelude.{pos, negsuc, int_lt, int_le, ◌≤ℤ◌, ◌<ℤ◌, ◌^◌, ◌+◌, ◌&&◌, Bool, IsTrue}
+use Rattle.std.specs.Prelude.{ℕ, ◌+ℤ◌, ◌-ℤ◌, pos, negsuc, int_lt, int_le, ◌≤ℤ◌, ◌<ℤ◌, ◌^◌, ◌+◌, ◌&&◌, Bool, IsTrue}
 use Rattle.std.specs.Int.{int_max, int_min}
 use Rattle.rc_geom.specs.declared.rect.Pt.{Pt}
 use Rattle.rc_geom.specs.declared.rect.Rect.{Rect}
@@ -49,6 +49,10 @@ pub record IsInside (inner outer : Rect) : Type 0 where
   pub right : inner.x1 ≤ℤ outer.x1
   pub below : outer.y0 ≤ℤ inner.y0
   pub above : inner.y1 ≤ℤ outer.y1
+
+-- the rectangle with that much more on each side
+abbrev pub grown : Rect → ℕ → Rect
+grown r by = record { x0 = r.x0 -ℤ pos by; y0 = r.y0 -ℤ pos by; x1 = r.x1 +ℤ pos by; y1 = r.y1 +ℤ pos by }
 
 -- its coordinates are within 2^29 + 1 of 0
 pub record IsNear (p : Pt) : Type 0 where

@@ -1,7 +1,7 @@
 //! What is proved of the definitions, each law on a function that does nothing.
 
 ghost use Rattle.rc_geom.specs.Line.{Line};
-ghost use Rattle.rc_geom.specs.Laws.{OwnersAreLeast, OrderIsFree, OwnersSuffice, IsMirrored, ThicknessIsARun, FacesAreThick, SightIsFirst, SightIsMutual, InnerSumsSuffice, TilesHoldMetal, MetalBounds, ValuesAreBounded, SharesAreMutual, KeysAreTold};
+ghost use Rattle.rc_geom.specs.Laws.{OwnersAreLeast, OrderIsFree, OwnersSuffice, IsMirrored, ThicknessIsARun, FacesAreThick, SightIsFirst, SightIsMutual, FacesAreLocal, UnderIsHighest, OverIsLowest, InnerSumsSuffice, TilesHoldMetal, MetalBounds, ValuesAreBounded, CutsAdd, HalosSuffice, NearTilesSuffice, SharesAreMutual, KeysAreTold};
 
 /// A square's owner is the tile of least rank among those that cover it; it has none only where no tile covers it.
 pub fn owners_are_least()
@@ -45,6 +45,22 @@ pub fn sight_is_mutual()
     ensures { SightIsMutual }
 {}
 
+/// A face rests on the squares up to one past the reach before it, and on those below the cap behind it, and on no
+/// others of its line.
+pub fn faces_are_local()
+    ensures { FacesAreLocal }
+{}
+
+/// The layer under a square is the highest one below with metal over it.
+pub fn under_is_highest()
+    ensures { UnderIsHighest }
+{}
+
+/// The layer over a square is the lowest one above with metal over it.
+pub fn over_is_lowest()
+    ensures { OverIsLowest }
+{}
+
 /// A rectangle's sum is that of a smaller one in it, where the squares outside the smaller one add nothing.
 pub fn inner_sums_suffice<V>()
     ensures { InnerSumsSuffice V }
@@ -63,6 +79,22 @@ pub fn metal_bounds<V, W>()
 /// Rectangles that hold all metal of a plane have the same values and the same counts.
 pub fn values_are_bounded<V>()
     ensures { ValuesAreBounded V }
+{}
+
+/// A rectangle that is cut in two, at a column or at a row, has the sum of both parts.
+pub fn cuts_add<V>()
+    ensures { CutsAdd V }
+{}
+
+/// Planes that are alike in a window and its halo have the same sums over the window: amounts of `V`, each by its worth
+/// in `W`.
+pub fn halos_suffice<V, W>()
+    ensures { HalosSuffice V W }
+{}
+
+/// A window's sum is that of the tiles which share a square with the window or its halo.
+pub fn near_tiles_suffice<V, W>()
+    ensures { NearTilesSuffice V W }
 {}
 
 /// What metals of two nets share has one key, from either side, and in a pair the lower net comes first.
