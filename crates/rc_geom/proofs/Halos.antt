@@ -18,7 +18,7 @@ use Rattle.rc_geom.specs.Rates.{Rates, rate_of}
 use Rattle.rc_geom.specs.Parts.{Part, parts, worth_at}
 use Rattle.rc_geom.specs.Sums.{Adding, both_directions, total_between, layer_sum, first_line, end_line, first_place, end_place}
 use Rattle.rc_geom.specs.Extraction.{face_of, parts_of, sum_in}
-use Rattle.rc_geom.specs.Laws.{HaloReaches, HalosSuffice, NearTilesSuffice}
+use Rattle.rc_geom.specs.Laws.{HaloReaches, HalosSuffice, NearTilesSuffice, LinesDecide}
 use Rattle.rc_geom.proofs.Bounds.{Covered, covered, covers_from}
 use Rattle.rc_geom.proofs.Owners.{better, claim, better_none, owner-cons}
 use Rattle.rc_geom.proofs.Rays.{faces_are_local}
@@ -80,6 +80,13 @@ halos_suffice adding worth plane other rates axis window halo key reaches alike 
     (λ along low high.
     let inside = covers_crossing axis window at along (record { line_low = above; line_high = below; place_low = low; place_high = high }) in
     ap (λ v. adding.plus v (f layer at along true)) (each layer at along inside false) ∙ ap (adding.plus (g layer at along false)) (each layer at along inside true))))
+
+-- ---- lines that are alike
+
+pub lines_decide : {V : Type 0} → LinesDecide V
+lines_decide plane other rates axis at at' alike layer along up =
+    ap (λ (line : Line). added rates layer (λ l. plane l (square_of axis at along)) (face_at (rates.cap layer) (rates.reach layer) line up along)) (alike layer)
+    ∙ ap (λ (stack : ℕ → Option Metal). added rates layer stack (face_of other rates axis layer at' along up)) (λ i l. alike l i along)
 
 -- ---- tiles that are near
 

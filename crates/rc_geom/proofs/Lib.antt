@@ -9,3 +9,4 @@ pub mod KeyTests
 pub mod Nearest
 pub mod Cuts
 pub mod Halos
+pub mod Words

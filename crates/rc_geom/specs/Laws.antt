@@ -1,5 +1,5 @@
 -- What holds of the definitions themselves.
-use Rattle.std.specs.Prelude.{◌≡◌, ◌≢◌, ◌↔◌, ◌<◌, ◌≤◌, ◌+◌, ℕ, ℤ, neg_ℤ, Bool, true, false, not, List, ◌∷◌, ◌++◌, Some, None, IsTrue, is_some, IfSome, IsSomeAnd, MatchOption, All, Contains, filter, ◌≤ℤ◌}
+use Rattle.std.specs.Prelude.{◌≡◌, ◌≢◌, ◌↔◌, ◌<◌, ◌≤◌, ◌+◌, ℕ, ℤ, neg_ℤ, Bool, true, false, not, List, ◌∷◌, ◌++◌, Some, None, IsTrue, is_some, IfSome, IsSomeAnd, MatchOption, All, Contains, filter, ◌≤ℤ◌, ◌==◌, ◌&&◌, ◌||◌, if◌then◌else◌}
 use Rattle.std.specs.List.Sorted.{IsPermutation}
 use Rattle.rc_geom.specs.declared.rect.Pt.{Pt}
 use Rattle.rc_geom.specs.declared.rect.Rect.{Rect}
@@ -8,13 +8,13 @@ use Rattle.rc_geom.specs.declared.key.Key.{Key}
 use Rattle.rc_geom.specs.declared.key.Key.TheVariants.{Ground, Pair}
 use Rattle.rc_geom.specs.Rects.{covers, grown, SharesSquare, IsInside}
 use Rattle.rc_geom.specs.Plane.{Metal, Plane, claims, owner, plane_of, RanksDiffer, NetsApart, NeverOwns, HoldsTiles, HoldsMetal}
-use Rattle.rc_geom.specs.Line.{Line, Ray, ray, mirror, at_distance, square_of}
+use Rattle.rc_geom.specs.Line.{Line, Ray, ray, mirror, at_distance, square_of, line_of}
 use Rattle.rc_geom.specs.Faces.{Face, face_at, is_net, thickness, sight}
 use Rattle.rc_geom.specs.Context.{layer_count, under, over}
 use Rattle.rc_geom.specs.Rates.{Rates}
-use Rattle.rc_geom.specs.Parts.{pair_key, shared_key, same_key}
-use Rattle.rc_geom.specs.Sums.{Adding, IsNeutral, IsAdditive, square_sum}
-use Rattle.rc_geom.specs.Extraction.{sum_in, key_value, key_count}
+use Rattle.rc_geom.specs.Parts.{pair_key, shared_key, same_key, parts, worth_at, is_metal, sees, sees_grounded}
+use Rattle.rc_geom.specs.Sums.{Adding, IsNeutral, IsAdditive, total, total_between, square_sum}
+use Rattle.rc_geom.specs.Extraction.{parts_of, sum_in, key_value, key_count}
 
 -- the tile is one of them, covers the square, and none that covers it has a lesser rank
 pub record IsOwner (tiles : List Tile) (layer : ℕ) (p : Pt) (t : Tile) : Type 0 where
@@ -96,26 +96,30 @@ FacesAreLocal = (cap reach : ℕ) (line other : Line) (up : Bool) (z : ℤ) →
 
 -- where squares outside the inner rectangle add nothing, the outer one has the same sum
 abbrev pub InnerSumsSuffice : Type 0 → Type 0
-InnerSumsSuffice V = (adding : Adding V) (axis : ℕ) (inner outer : Rect) (f : ℕ → ℤ → ℤ → Bool → V) →
-    IsNeutral adding → IsInside inner outer →
-    ((layer : ℕ) (at along : ℤ) (up : Bool) → covers outer (square_of axis at along) ≡ true → covers inner (square_of axis at along) ≡ false → f layer at along up ≡ adding.none) →
-    square_sum adding axis outer f ≡ square_sum adding axis inner f
+InnerSumsSuffice V = (adding : Adding V) (sound : V → Bool) (axis : ℕ) (inner outer : Rect) (f : ℕ → ℤ → ℤ → Bool → V) →
+  IsNeutral adding sound → ((layer : ℕ) (at along : ℤ) (up : Bool) → sound (f layer at along up) ≡ true) → IsInside inner outer →
+  ((layer : ℕ) (at along : ℤ) (up : Bool) → covers outer (square_of axis at along) ≡ true → covers inner (square_of axis at along) ≡ false → f layer at along up ≡ adding.none) →
+  square_sum adding axis outer f ≡ square_sum adding axis inner f
 
 -- where all tiles lie in a rectangle, all metal does
 abbrev pub TilesHoldMetal : Type 0
 TilesHoldMetal = (r : Rect) (tiles : List Tile) → HoldsTiles r tiles → HoldsMetal r (plane_of tiles)
 
+-- each amount that a face of the plane adds has a sound worth
+abbrev pub AmountsAreSound : {V W : Type 0} → (W → Bool) → (V → W) → Plane → Rates V → Type 0
+AmountsAreSound sound worth plane rates = (axis layer : ℕ) (at along : ℤ) (up : Bool) → All (λ part. sound (worth part.amount) ≡ true) (parts_of plane rates axis layer at along up)
+
 -- two rectangles that hold all metal have the same sums
 abbrev pub MetalBounds : Type 0 → Type 0 → Type 0
-MetalBounds V W = (adding : Adding W) (worth : V → W) (plane : Plane) (rates : Rates V) (axis : ℕ) (r s : Rect) (key : Key) →
-    IsNeutral adding → HoldsMetal r plane → HoldsMetal s plane →
-    sum_in adding worth plane rates axis r key ≡ sum_in adding worth plane rates axis s key
+MetalBounds V W = (adding : Adding W) (sound : W → Bool) (worth : V → W) (plane : Plane) (rates : Rates V) (axis : ℕ) (r s : Rect) (key : Key) →
+  IsNeutral adding sound → AmountsAreSound sound worth plane rates → HoldsMetal r plane → HoldsMetal s plane →
+  sum_in adding worth plane rates axis r key ≡ sum_in adding worth plane rates axis s key
 
 -- so the values and the counts of both axes are the same
 abbrev pub ValuesAreBounded : Type 0 → Type 0
-ValuesAreBounded V = (adding : Adding V) (plane : Plane) (rates : Rates V) (r s : Rect) (key : Key) →
-    IsNeutral adding → HoldsMetal r plane → HoldsMetal s plane →
-    (key_value adding plane rates r key ≡ key_value adding plane rates s key) × (key_count plane rates r key ≡ key_count plane rates s key)
+ValuesAreBounded V = (adding : Adding V) (sound : V → Bool) (plane : Plane) (rates : Rates V) (r s : Rect) (key : Key) →
+  IsNeutral adding sound → AmountsAreSound sound (λ v. v) plane rates → HoldsMetal r plane → HoldsMetal s plane →
+  (key_value adding plane rates r key ≡ key_value adding plane rates s key) × (key_count plane rates r key ≡ key_count plane rates s key)
 
 -- a sum over a rectangle is that of its two parts, cut at a column or at a row
 pub record IsCutAt {V : Type 0} (adding : Adding V) (axis : ℕ) (r : Rect) (f : ℕ → ℤ → ℤ → Bool → V) (z : ℤ) : Type 0 where
@@ -123,7 +127,20 @@ pub record IsCutAt {V : Type 0} (adding : Adding V) (axis : ℕ) (r : Rect) (f :
   pub row : r.y0 ≤ℤ z → z ≤ℤ r.y1 → square_sum adding axis r f ≡ adding.plus (square_sum adding axis (record r { y1 = z }) f) (square_sum adding axis (record r { y0 = z }) f)
 
 abbrev pub CutsAdd : Type 0 → Type 0
-CutsAdd V = (adding : Adding V) (axis : ℕ) (r : Rect) (f : ℕ → ℤ → ℤ → Bool → V) (z : ℤ) → IsAdditive adding → IsCutAt adding axis r f z
+CutsAdd V = (adding : Adding V) (sound : V → Bool) (axis : ℕ) (r : Rect) (f : ℕ → ℤ → ℤ → Bool → V) (z : ℤ) →
+  IsAdditive adding sound → ((layer : ℕ) (at along : ℤ) (up : Bool) → sound (f layer at along up) ≡ true) → IsCutAt adding axis r f z
+
+-- layers and lines can be summed in either order
+abbrev pub LayersSwap : Type 0 → Type 0
+LayersSwap V = (adding : Adding V) (sound : V → Bool) (n : ℕ) (lo hi : ℤ) (f : ℕ → ℤ → V) →
+  IsAdditive adding sound → ((layer : ℕ) (z : ℤ) → sound (f layer z) ≡ true) →
+  total adding n (λ layer. total_between adding lo hi (f layer)) ≡ total_between adding lo hi (λ z. total adding n (λ layer. f layer z))
+
+-- where two lines of an axis are alike on all layers, their faces add the same
+abbrev pub LinesDecide : Type 0 → Type 0
+LinesDecide V = (plane other : Plane) (rates : Rates V) (axis : ℕ) (at at' : ℤ) →
+  ((layer : ℕ) → line_of plane layer axis at ≡ line_of other layer axis at') →
+  (layer : ℕ) (along : ℤ) (up : Bool) → parts_of plane rates axis layer at along up ≡ parts_of other rates axis layer at' along up
 
 -- where a layer has metal in the window, its faces rest on squares within the halo
 abbrev pub HaloReaches : {V : Type 0} → Plane → Rates V → Rect → ℕ → Type 0
@@ -155,3 +172,22 @@ SharesAreMutual = (a b : Metal) → a.0 ≢ b.0 → (pair_key a b ≡ pair_key b
 -- the test of keys tells whether they are one
 abbrev pub KeysAreTold : Type 0
 KeysAreTold = (a b : Key) → IsTrue (same_key a b) ↔ (a ≡ b)
+
+-- to the value of a node its own faces add their own amount, and their share where they see grounded metal; grounded
+-- faces add their share where they see the node
+abbrev pub NodesInWords : Type 0 → Type 0 → Type 0
+NodesInWords V W = (adding : Adding W) (sound : W → Bool) (worth : V → W) (face : Face) (rate : V × V) (a : Metal) →
+  IsNeutral adding sound → sound (worth rate.0) ≡ true → sound (worth rate.1) ≡ true → 0 < a.1 →
+  worth_at adding worth (Ground a.0 a.1) (parts face rate)
+    ≡ adding.plus (if is_metal face.own a then worth rate.0 else adding.none) (if (is_metal face.own a && sees_grounded face) || ((face.own.1 == 0) && sees face a) then worth rate.1 else adding.none)
+
+-- to the coupling of two nodes of different nets the faces of either add their share where they see the other
+abbrev pub CouplingsInWords : Type 0 → Type 0 → Type 0
+CouplingsInWords V W = (adding : Adding W) (sound : W → Bool) (worth : V → W) (face : Face) (rate : V × V) (a b : Metal) →
+  IsNeutral adding sound → sound (worth rate.0) ≡ true → sound (worth rate.1) ≡ true → 0 < a.1 → 0 < b.1 → a.0 ≢ b.0 →
+  worth_at adding worth (pair_key a b) (parts face rate)
+    ≡ (if (is_metal face.own a && sees face b) || (is_metal face.own b && sees face a) then worth rate.1 else adding.none)
+
+-- where both amounts of a face have a sound worth, so do its parts
+abbrev pub PartsAreSound : Type 0 → Type 0 → Type 0
+PartsAreSound V W = (sound : W → Bool) (worth : V → W) (face : Face) (rate : V × V) → sound (worth rate.0) ≡ true → sound (worth rate.1) ≡ true → All (λ part. sound (worth part.amount) ≡ true) (parts face rate)

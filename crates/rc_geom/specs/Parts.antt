@@ -1,6 +1,6 @@
 -- What a face adds, and to which keys.
 use Rattle.std.specs.Prelude.{Bool, false, Option, Some, None, List, ◌++◌, nat_lt, ◌==◌, ◌&&◌, if◌then◌else◌, option_map, fold}
-use Rattle.std.specs.Option.{option_to_list, option_and_then}
+use Rattle.std.specs.Option.{option_to_list, option_and_then, option_map_or}
 use Rattle.rc_geom.specs.declared.key.Key.{Key}
 use Rattle.rc_geom.specs.declared.key.Key.TheVariants.{Ground, Pair}
 use Rattle.rc_geom.specs.Plane.{Metal}
@@ -44,3 +44,15 @@ same_key _ _ = false
 -- the sum, over the parts that have the key, of what their amounts are worth
 abbrev pub worth_at : {V W : Type 0} → Adding W → (V → W) → Key → List (Part V) → W
 worth_at adding worth key ps = fold (λ sum part. if same_key part.key key then adding.plus sum (worth part.amount) else sum) adding.none ps
+
+-- both are the same node of one net
+abbrev pub is_metal : Metal → Metal → Bool
+is_metal a b = (a.0 == b.0) && (a.1 == b.1)
+
+-- the face sees that metal, and it is of another net
+abbrev pub sees : Face → Metal → Bool
+sees face a = option_map_or (λ metal. is_metal metal a) (foreign face.own face.sight) false
+
+-- the face sees grounded metal of another net
+abbrev pub sees_grounded : Face → Bool
+sees_grounded face = option_map_or (λ metal. metal.1 == 0) (foreign face.own face.sight) false

@@ -9,16 +9,18 @@ pub record Adding (V : Type 0) : Type 0 where
   pub none : V
   pub plus : V → V → V
 
--- adding nothing changes nothing
-pub record IsNeutral {V : Type 0} (adding : Adding V) : Type 0 where
-  pub before : (v : V) → adding.plus adding.none v ≡ v
-  pub after : (v : V) → adding.plus v adding.none ≡ v
+-- among sound amounts, which sums don't leave, adding nothing changes nothing
+pub record IsNeutral {V : Type 0} (adding : Adding V) (sound : V → Bool) : Type 0 where
+  pub start : sound adding.none ≡ true
+  pub closed : (a b : V) → sound a ≡ true → sound b ≡ true → sound (adding.plus a b) ≡ true
+  pub before : (v : V) → sound v ≡ true → adding.plus adding.none v ≡ v
+  pub after : (v : V) → sound v ≡ true → adding.plus v adding.none ≡ v
 
--- the order and the grouping don't matter either
-pub record IsAdditive {V : Type 0} (adding : Adding V) : Type 0 where
-  pub neutral : IsNeutral adding
-  pub swap : (a b : V) → adding.plus a b ≡ adding.plus b a
-  pub regroup : (a b c : V) → adding.plus (adding.plus a b) c ≡ adding.plus a (adding.plus b c)
+-- and the order and the grouping don't matter either
+pub record IsAdditive {V : Type 0} (adding : Adding V) (sound : V → Bool) : Type 0 where
+  pub neutral : IsNeutral adding sound
+  pub swap : (a b : V) → sound a ≡ true → sound b ≡ true → adding.plus a b ≡ adding.plus b a
+  pub regroup : (a b c : V) → sound a ≡ true → sound b ≡ true → sound c ≡ true → adding.plus (adding.plus a b) c ≡ adding.plus a (adding.plus b c)
 
 -- plain numbers
 abbrev pub numbers : Adding ℕ

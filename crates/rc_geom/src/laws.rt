@@ -1,7 +1,7 @@
 //! What is proved of the definitions, each law on a function that does nothing.
 
 ghost use Rattle.rc_geom.specs.Line.{Line};
-ghost use Rattle.rc_geom.specs.Laws.{OwnersAreLeast, OrderIsFree, OwnersSuffice, IsMirrored, ThicknessIsARun, FacesAreThick, SightIsFirst, SightIsMutual, FacesAreLocal, UnderIsHighest, OverIsLowest, InnerSumsSuffice, TilesHoldMetal, MetalBounds, ValuesAreBounded, CutsAdd, HalosSuffice, NearTilesSuffice, SharesAreMutual, KeysAreTold};
+ghost use Rattle.rc_geom.specs.Laws.{OwnersAreLeast, OrderIsFree, OwnersSuffice, IsMirrored, ThicknessIsARun, FacesAreThick, SightIsFirst, SightIsMutual, FacesAreLocal, UnderIsHighest, OverIsLowest, InnerSumsSuffice, TilesHoldMetal, MetalBounds, ValuesAreBounded, CutsAdd, LayersSwap, LinesDecide, HalosSuffice, NearTilesSuffice, SharesAreMutual, KeysAreTold, NodesInWords, CouplingsInWords, PartsAreSound};
 
 /// A square's owner is the tile of least rank among those that cover it; it has none only where no tile covers it.
 pub fn owners_are_least()
@@ -86,6 +86,18 @@ pub fn cuts_add<V>()
     ensures { CutsAdd V }
 {}
 
+/// A sum over layers and lines is the same in either order.
+pub fn layers_swap<V>()
+    ensures { LayersSwap V }
+{
+}
+
+/// What the faces of a line add rests on the lines that stand there, one on each layer, and not on where they stand.
+pub fn lines_decide<V>()
+    ensures { LinesDecide V }
+{
+}
+
 /// Planes that are alike in a window and its halo have the same sums over the window: amounts of `V`, each by its worth
 /// in `W`.
 pub fn halos_suffice<V, W>()
@@ -106,3 +118,22 @@ pub fn shares_are_mutual()
 pub fn keys_are_told()
     ensures { KeysAreTold }
 {}
+
+/// What a face adds to the value of a node: its own amount and what it shares with grounded metal, where it is the
+/// node's; its share, where it is grounded and sees the node.
+pub fn nodes_in_words<V, W>()
+    ensures { NodesInWords V W }
+{
+}
+
+/// What a face adds to the coupling of two nodes: its share, where it is either's and sees the other.
+pub fn couplings_in_words<V, W>()
+    ensures { CouplingsInWords V W }
+{
+}
+
+/// Where both amounts of a face have a sound worth, so do its parts.
+pub fn parts_are_sound<V, W>()
+    ensures { PartsAreSound V W }
+{
+}
