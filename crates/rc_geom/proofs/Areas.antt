@@ -77,14 +77,14 @@ layer_sum_within adding sound laws axis inner outer f each inside nothing =
     let outer_line = λ (at : ℤ). total_between adding (first_place axis outer) (end_place axis outer) (λ along. both_directions adding (f at along)) in
     let inner_line = λ (at : ℤ). total_between adding (first_place axis inner) (end_place axis inner) (λ along. both_directions adding (f at along)) in
     total_within adding sound laws (first_line axis outer) (first_line axis inner) (end_line axis inner) (end_line axis outer) outer_line (λ at. run_sound adding sound laws (first_place axis outer) (end_place axis outer) (f at) (each at)) w.line_low w.line_high
-      (λ at above below out. total_between_nothing adding sound laws (first_place axis outer) (end_place axis outer) (λ along. both_directions adding (f at along))
-        (λ along low high. two_nothings adding sound laws (f at along) (λ up. nothing at along up (covers_crossing axis outer at along (record { line_low = above; line_high = below; place_low = low; place_high = high })) (beside axis inner at along out))))
+    (λ at above below out. total_between_nothing adding sound laws (first_place axis outer) (end_place axis outer) (λ along. both_directions adding (f at along))
+    (λ along low high. two_nothings adding sound laws (f at along) (λ up. nothing at along up (covers_crossing axis outer at along (record { line_low = above; line_high = below; place_low = low; place_high = high })) (beside axis inner at along out))))
     ∙ total_between_same adding (first_line axis inner) (end_line axis inner) outer_line inner_line
-      (λ at above below. total_within adding sound laws (first_place axis outer) (first_place axis inner) (end_place axis inner) (end_place axis outer) (λ along. both_directions adding (f at along))
-        (λ along. laws.closed (f at along false) (f at along true) (each at along false) (each at along true)) w.place_low w.place_high
-        (λ along low high out. two_nothings adding sound laws (f at along) (λ up. nothing at along up
-          (covers_crossing axis outer at along (record { line_low = omega (arith, ints, w.line_low); line_high = omega (arith, ints, w.line_high); place_low = low; place_high = high }))
-          (past axis inner at along out))))
+    (λ at above below. total_within adding sound laws (first_place axis outer) (first_place axis inner) (end_place axis inner) (end_place axis outer) (λ along. both_directions adding (f at along))
+    (λ along. laws.closed (f at along false) (f at along true) (each at along false) (each at along true)) w.place_low w.place_high
+    (λ along low high out. two_nothings adding sound laws (f at along) (λ up. nothing at along up
+    (covers_crossing axis outer at along (record { line_low = omega (arith, ints, w.line_low); line_high = omega (arith, ints, w.line_high); place_low = low; place_high = high }))
+    (past axis inner at along out))))
 
 pub inner_sums_suffice : {V : Type 0} → InnerSumsSuffice V
 inner_sums_suffice adding sound axis inner outer f laws each inside nothing =
@@ -150,6 +150,7 @@ numbers_are_neutral = record { start = refl; closed = λ a b _ _. refl; before =
 pub values_are_bounded : {V : Type 0} → ValuesAreBounded V
 values_are_bounded adding sound plane rates r s key laws amounts holds_r holds_s =
     let values = λ (axis : ℕ). metal_bounds adding sound (λ v. v) plane rates axis r s key laws amounts holds_r holds_s in
-    let counts = λ (axis : ℕ). metal_bounds numbers (λ _. true) (λ _. 1) plane rates axis r s key numbers_are_neutral (λ axis' layer at along up k d less. refl) holds_r holds_s in
-    ( ap (λ v. adding.plus v (value_in adding plane rates 1 r key)) (values 0) ∙ ap (adding.plus (value_in adding plane rates 0 s key)) (values 1)
-    , ap (λ (n : ℕ). n + count_in plane rates 1 r key) (counts 0) ∙ ap (λ (n : ℕ). count_in plane rates 0 s key + n) (counts 1))
+    let counts = λ (axis : ℕ). metal_bounds numbers (λ _. true) (λ _. 1) plane rates axis r s key numbers_are_neutral (λ axis' layer at along up k d less. refl) holds_r holds_s in (
+      ap (λ v. adding.plus v (value_in adding plane rates 1 r key)) (values 0) ∙ ap (adding.plus (value_in adding plane rates 0 s key)) (values 1),
+      ap (λ (n : ℕ). n + count_in plane rates 1 r key) (counts 0) ∙ ap (λ (n : ℕ). count_in plane rates 0 s key + n) (counts 1),
+    )

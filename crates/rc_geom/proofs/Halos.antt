@@ -1,5 +1,5 @@
 -- What lies too far from a window to matter to it.
-use Rattle.std.proofs.Common.{◌≡◌, ◌≤◌, ◌<◌, ◌+◌, ◌-◌, ℕ, zero, suc, ℤ, pos, ◌+ℤ◌, ◌-ℤ◌, ◌≤ℤ◌, ◌<ℤ◌, Bool, true, false, cond, not, List, [], ◌∷◌, Option, Some, None, refl, ap, sym, ◌∙◌, subst, arith}
+use Rattle.std.proofs.Common.{◌≡◌, ◌≤◌, ◌+◌, ◌-◌, ℕ, zero, suc, ℤ, pos, ◌+ℤ◌, ◌-ℤ◌, ◌≤ℤ◌, Bool, true, false, cond, not, List, [], ◌∷◌, Option, Some, None, refl, ap, sym, ◌∙◌, arith}
 use Rattle.std.specs.Prelude.{is_some, option_map, filter, ◌==◌}
 use Rattle.std.specs.Option.{option_map_or}
 use Rattle.std.specs.List.{find, range_with_len}
@@ -8,18 +8,17 @@ use Rattle.std.proofs.lemmas.Bool.{and_parts, true≢false, false_from_ne_true}
 use Rattle.rc_geom.specs.declared.rect.Pt.{Pt}
 use Rattle.rc_geom.specs.declared.rect.Rect.{Rect}
 use Rattle.rc_geom.specs.declared.tile.Tile.{Tile}
-use Rattle.rc_geom.specs.declared.key.Key.{Key}
-use Rattle.rc_geom.specs.Rects.{covers, grown, SharesSquare, IsInside}
+use Rattle.rc_geom.specs.Rects.{covers, grow, SharesSquare}
 use Rattle.rc_geom.specs.Plane.{Metal, Plane, claims, owner, plane_of}
-use Rattle.rc_geom.specs.Line.{Line, ray, square_of, line_of, at_distance}
+use Rattle.rc_geom.specs.Line.{Line, square_of, line_of, at_distance}
 use Rattle.rc_geom.specs.Faces.{Face, face_at}
-use Rattle.rc_geom.specs.Context.{layer_count, last_that, under, over}
-use Rattle.rc_geom.specs.Rates.{Rates, rate_of}
+use Rattle.rc_geom.specs.Context.{layer_count, last_that}
+use Rattle.rc_geom.specs.Rates.{Rates}
 use Rattle.rc_geom.specs.Parts.{Part, parts, worth_at}
-use Rattle.rc_geom.specs.Sums.{Adding, both_directions, total_between, layer_sum, first_line, end_line, first_place, end_place}
-use Rattle.rc_geom.specs.Extraction.{face_of, parts_of, sum_in}
+use Rattle.rc_geom.specs.Sums.{both_directions, total_between, layer_sum, first_line, end_line, first_place, end_place}
+use Rattle.rc_geom.specs.Extraction.{face_of, parts_of}
 use Rattle.rc_geom.specs.Laws.{HaloReaches, HalosSuffice, NearTilesSuffice, LinesDecide}
-use Rattle.rc_geom.proofs.Bounds.{Covered, covered, covers_from}
+use Rattle.rc_geom.proofs.Bounds.{covers_from}
 use Rattle.rc_geom.proofs.Owners.{better, claim, better_none, owner-cons}
 use Rattle.rc_geom.proofs.Rays.{faces_are_local}
 use Rattle.rc_geom.proofs.Totals.{total_same, total_between_same}
@@ -27,11 +26,11 @@ use Rattle.rc_geom.proofs.Areas.{Crosses, crosses, covers_crossing, no_parts}
 
 -- ---- squares near a window
 
-grown_place : (axis : ℕ) (r : Rect) (halo : ℕ) (at along z : ℤ) → Crosses axis r at along → (along -ℤ pos halo) ≤ℤ z → z ≤ℤ (along +ℤ pos halo) → covers (grown r halo) (square_of axis at z) ≡ true
+grown_place : (axis : ℕ) (r : Rect) (halo : ℕ) (at along z : ℤ) → Crosses axis r at along → (along -ℤ pos halo) ≤ℤ z → z ≤ℤ (along +ℤ pos halo) → covers (grow r halo) (square_of axis at z) ≡ true
 grown_place zero r halo at along z c low high =
-    covers_from (grown r halo) (square_of 0 at z) (record { left = omega (arith, ints, c.place_low); right = omega (arith, ints, c.place_high); below = omega (arith, ints, c.line_low); above = omega (arith, ints, c.line_high) })
+    covers_from (grow r halo) (square_of 0 at z) (record { left = omega (arith, ints, c.place_low); right = omega (arith, ints, c.place_high); below = omega (arith, ints, c.line_low); above = omega (arith, ints, c.line_high) })
 grown_place (suc n) r halo at along z c low high =
-    covers_from (grown r halo) (square_of (suc n) at z) (record { left = omega (arith, ints, c.line_low); right = omega (arith, ints, c.line_high); below = omega (arith, ints, c.place_low); above = omega (arith, ints, c.place_high) })
+    covers_from (grow r halo) (square_of (suc n) at z) (record { left = omega (arith, ints, c.line_low); right = omega (arith, ints, c.line_high); below = omega (arith, ints, c.place_low); above = omega (arith, ints, c.place_high) })
 
 near_low : (up : Bool) (along : ℤ) (k halo : ℕ) → k ≤ halo → (along -ℤ pos halo) ≤ℤ at_distance up along k
 near_low true along k halo h = omega (arith, ints)
@@ -48,7 +47,7 @@ abbrev added : {V : Type 0} → Rates V → ℕ → (ℕ → Option Metal) → O
 added rates layer stack face =
     option_map_or (λ face. parts face (rates.rate layer (last_that (λ below. is_some (stack below)) (range_with_len 0 layer)) (find (λ above. is_some (stack above)) (range_with_len (layer + 1) (layer_count - (layer + 1)))) face.thick (option_map (λ seen. seen.0) face.sight))) face []
 
-same_parts : {V : Type 0} (plane other : Plane) (rates : Rates V) (axis : ℕ) (window : Rect) (halo layer : ℕ) (at along : ℤ) (up : Bool) → HaloReaches plane rates window halo → ((l : ℕ) (p : Pt) → covers (grown window halo) p ≡ true → plane l p ≡ other l p) → covers window (square_of axis at along) ≡ true → (own : Option Metal) → plane layer (square_of axis at along) ≡ own → parts_of plane rates axis layer at along up ≡ parts_of other rates axis layer at along up
+same_parts : {V : Type 0} (plane other : Plane) (rates : Rates V) (axis : ℕ) (window : Rect) (halo layer : ℕ) (at along : ℤ) (up : Bool) → HaloReaches plane rates window halo → ((l : ℕ) (p : Pt) → covers (grow window halo) p ≡ true → plane l p ≡ other l p) → covers window (square_of axis at along) ≡ true → (own : Option Metal) → plane layer (square_of axis at along) ≡ own → parts_of plane rates axis layer at along up ≡ parts_of other rates axis layer at along up
 same_parts plane other rates axis window halo layer at along up reaches alike inside None bare =
     let c = crosses axis window at along inside in
     let here : plane layer (square_of axis at along) ≡ other layer (square_of axis at along) = alike layer (square_of axis at along) (grown_place axis window halo at along along c (omega (arith, ints)) (omega (arith, ints))) in
@@ -110,4 +109,4 @@ near_owner (t ∷ ts) r keep layer p needed inside =
 pub near_tiles_suffice : {V W : Type 0} → NearTilesSuffice V W
 near_tiles_suffice adding worth tiles keep rates axis window halo key reaches needed =
     halos_suffice adding worth (plane_of tiles) (plane_of (filter keep tiles)) rates axis window halo key reaches
-    (λ layer p inside. ap (option_map {U = Metal} (λ (t : Tile). (t.net, t.node))) (sym (near_owner tiles (grown window halo) keep layer p needed inside)))
+    (λ layer p inside. ap (option_map {U = Metal} (λ (t : Tile). (t.net, t.node))) (sym (near_owner tiles (grow window halo) keep layer p needed inside)))

@@ -1,13 +1,12 @@
 -- The nearest layers with metal.
-use Rattle.std.proofs.Common.{◌≡◌, ◌≤◌, ◌<◌, ◌+◌, ◌-◌, ◌⊎◌, inl, inr, ⊎_elim, ℕ, zero, suc, Bool, true, false, cond, List, [], ◌∷◌, ◌++◌, Option, Some, None, refl, ap, sym, ◌∙◌, subst, arith}
-use Rattle.std.specs.Prelude.{is_some, MatchOption, ◌↔◌}
+use Rattle.std.proofs.Common.{◌≡◌, ◌≤◌, ◌<◌, ◌+◌, ◌-◌, ⊎_elim, ℕ, zero, suc, Bool, true, false, cond, Option, Some, None, refl, ap, sym, ◌∙◌, subst, arith}
+use Rattle.std.specs.Prelude.{is_some, MatchOption}
 use Rattle.std.specs.List.{fold, find, range_with_len}
 use Rattle.std.proofs.lemmas.Bool.{true≢false, cases_order}
 use Rattle.std.proofs.lemmas.List.Sums.{fold_push}
-use Rattle.rc_geom.specs.declared.rect.Pt.{Pt}
-use Rattle.rc_geom.specs.Plane.{Metal, Plane}
+use Rattle.rc_geom.specs.Plane.{Metal}
 use Rattle.rc_geom.specs.Context.{layer_count, last_that, under, over}
-use Rattle.rc_geom.specs.Laws.{IsUnder, IsOver, UnderIsHighest, OverIsLowest}
+use Rattle.rc_geom.specs.Laws.{UnderIsHighest, OverIsLowest}
 use Rattle.rc_geom.proofs.Totals.{range_more}
 
 -- the last number below n that passes, and the first one from a on

@@ -4,7 +4,7 @@ use Rattle.std.specs.List.{fold, range_with_len}
 use Rattle.std.proofs.lemmas.List.FromFn.{map-range_with_len_more}
 use Rattle.std.proofs.lemmas.List.Sums.{fold_push}
 use Rattle.std.proofs.lemmas.Int.{ints, by_lt_z}
-use Rattle.rc_geom.specs.Sums.{Adding, IsNeutral, total, at_least_0, extent, total_between}
+use Rattle.rc_geom.specs.Sums.{Adding, IsNeutral, total, natural, extent, total_between}
 
 -- one number more, counted up
 pub range_more : (n : ℕ) → range_with_len 0 (n + 1) ≡ range_with_len 0 n ++ n ∷ []
@@ -47,7 +47,7 @@ total_nothing adding sound laws (suc n) f nothing =
     let before = total_nothing adding sound laws n f (λ k less. nothing k (omega arith)) in
     total_suc adding n (suc n) f (omega arith)
     ∙ (ap (λ v. adding.plus v (f n)) before
-      ∙ (ap (adding.plus adding.none) (nothing n (omega arith)) ∙ laws.before adding.none laws.start))
+    ∙ (ap (adding.plus adding.none) (nothing n (omega arith)) ∙ laws.before adding.none laws.start))
 
 -- nothing in front, and nothing at the end
 total_lead : {V : Type 0} (adding : Adding V) (sound : V → Bool) → IsNeutral adding sound → (a n : ℕ) (f : ℕ → V) → ((k : ℕ) → k < a → f k ≡ adding.none) → total adding (a + n) f ≡ total adding n (λ k. f (a + k))
@@ -57,23 +57,23 @@ total_lead adding sound laws a zero f nothing =
 total_lead adding sound laws a (suc n) f nothing =
     total_suc adding (a + n) (a + suc n) f (omega arith)
     ∙ (ap (λ v. adding.plus v (f (a + n))) (total_lead adding sound laws a n f nothing)
-      ∙ sym (total_suc adding n (suc n) (λ k. f (a + k)) (omega arith)))
+    ∙ sym (total_suc adding n (suc n) (λ k. f (a + k)) (omega arith)))
 
 total_trail : {V : Type 0} (adding : Adding V) (sound : V → Bool) → IsNeutral adding sound → (n b : ℕ) (f : ℕ → V) → ((k : ℕ) → sound (f k) ≡ true) → ((k : ℕ) → n ≤ k → k < n + b → f k ≡ adding.none) → total adding (n + b) f ≡ total adding n f
 total_trail adding sound laws n zero f each nothing = let e : n + 0 ≡ n = omega arith in ap (λ (k : ℕ). total adding k f) e
 total_trail adding sound laws n (suc b) f each nothing =
     total_suc adding (n + b) (n + suc b) f (omega arith)
     ∙ (ap (adding.plus (total adding (n + b) f)) (nothing (n + b) (omega arith) (omega arith))
-      ∙ (laws.after (total adding (n + b) f) (total_sound adding sound laws (n + b) f each)
-        ∙ total_trail adding sound laws n b f each (λ k low high. nothing k low (omega arith))))
+    ∙ (laws.after (total adding (n + b) f) (total_sound adding sound laws (n + b) f each)
+    ∙ total_trail adding sound laws n b f each (λ k low high. nothing k low (omega arith))))
 
 -- ---- between two whole numbers
 
-natural_is : (z : ℤ) → pos 0 ≤ℤ z → pos (at_least_0 z) ≡ z
+natural_is : (z : ℤ) → pos 0 ≤ℤ z → pos (natural z) ≡ z
 natural_is (pos n) h = refl
 natural_is (negsuc n) h = omega (arith, ints)
 
-natural_none : (z : ℤ) → z ≤ℤ pos 0 → at_least_0 z ≡ 0
+natural_none : (z : ℤ) → z ≤ℤ pos 0 → natural z ≡ 0
 natural_none (pos n) h = omega (arith, ints)
 natural_none (negsuc n) h = refl
 

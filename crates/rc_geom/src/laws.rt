@@ -89,14 +89,12 @@ pub fn cuts_add<V>()
 /// A sum over layers and lines is the same in either order.
 pub fn layers_swap<V>()
     ensures { LayersSwap V }
-{
-}
+{}
 
 /// What the faces of a line add rests on the lines that stand there, one on each layer, and not on where they stand.
 pub fn lines_decide<V>()
     ensures { LinesDecide V }
-{
-}
+{}
 
 /// Planes that are alike in a window and its halo have the same sums over the window: amounts of `V`, each by its worth
 /// in `W`.
@@ -123,17 +121,14 @@ pub fn keys_are_told()
 /// node's; its share, where it is grounded and sees the node.
 pub fn nodes_in_words<V, W>()
     ensures { NodesInWords V W }
-{
-}
+{}
 
 /// What a face adds to the coupling of two nodes: its share, where it is either's and sees the other.
 pub fn couplings_in_words<V, W>()
     ensures { CouplingsInWords V W }
-{
-}
+{}
 
 /// Where both amounts of a face have a sound worth, so do its parts.
 pub fn parts_are_sound<V, W>()
     ensures { PartsAreSound V W }
-{
-}
+{}
