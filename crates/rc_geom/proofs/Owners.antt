@@ -1,6 +1,6 @@
 -- The owner of a square.
-use Rattle.std.proofs.Common.{◌≡◌, ◌≢◌, ◌≤◌, ◌<◌, ◌+◌, ◌⊎◌, inl, inr, ⊎_elim, ℕ, zero, suc, Bool, true, false, cond, List, [], ◌∷◌, ◌++◌, length, get_or, Option, Some, None, refl, ap, sym, ◌∙◌, subst, arith}
-use Rattle.std.specs.Prelude.{All, Any, Contains, MatchOption, IsTrue, nat_lt, ◌==◌, ◌&&◌, option_map, fold}
+use Rattle.std.proofs.Common.{◌≡◌, ◌≢◌, ◌≤◌, ◌<◌, ⊎_elim, ℕ, suc, Bool, true, false, cond, List, [], ◌∷◌, ◌++◌, length, get_or, Option, Some, None, refl, ap, sym, ◌∙◌, subst, arith}
+use Rattle.std.specs.Prelude.{All, Contains, MatchOption, nat_lt, ◌==◌, option_map, fold}
 use Rattle.std.specs.List.Sorted.{IsPermutation}
 use Rattle.std.proofs.lemmas.List.{get_or_default}
 use Rattle.std.proofs.lemmas.List.Elements.{All-nil, All-cons, All-weaker, All-contains, Contains-append_cases}
@@ -9,45 +9,44 @@ use Rattle.std.proofs.lemmas.List.Sums.{fold-append}
 use Rattle.std.proofs.lemmas.Bool.{and_parts, eqb-true, cases_eq, cases_order, ltb-true, ltb-false, true≢false}
 use Rattle.std.proofs.lemmas.Bool.Decides.{nat_tests}
 use Rattle.rc_geom.specs.declared.rect.Pt.{Pt}
-use Rattle.rc_geom.specs.declared.rect.Rect.{Rect}
 use Rattle.rc_geom.specs.declared.tile.Tile.{Tile}
 use Rattle.rc_geom.specs.Rects.{covers}
-use Rattle.rc_geom.specs.Plane.{Metal, claims, lesser, claimed, owner, plane_of, Overlaps, RanksDiffer, NetsApart, NeverOwns}
+use Rattle.rc_geom.specs.Plane.{claims, least_of, next_owner, owner, Overlaps, RanksDiffer, NetsApart, NeverOwns}
 use Rattle.rc_geom.specs.Laws.{IsOwner, OwnersAreLeast, OrderIsFree, OwnersSuffice}
 
 -- of two owners the one of less rank, the first where they tie
-abbrev better : Option Tile → Option Tile → Option Tile
+abbrev pub better : Option Tile → Option Tile → Option Tile
 better best None = best
-better best (Some t) = Some (lesser best t)
+better best (Some t) = Some (least_of best t)
 
 -- a tile as the only owner
-abbrev claim : ℕ → Pt → Tile → Option Tile
+abbrev pub claim : ℕ → Pt → Tile → Option Tile
 claim layer p t = cond (claims layer p t) (Some t) None
 
-better_none : (o : Option Tile) → better None o ≡ o
+pub better_none : (o : Option Tile) → better None o ≡ o
 better_none None = refl
 better_none (Some t) = refl
 
-lesser_assoc : (a b c : Tile) → lesser (Some (lesser (Some a) b)) c ≡ lesser (Some a) (lesser (Some b) c)
+lesser_assoc : (a b c : Tile) → least_of (Some (least_of (Some a) b)) c ≡ least_of (Some a) (least_of (Some b) c)
 lesser_assoc a b c = grind (arith, nat_tests)
 
-better_assoc : (best : Option Tile) (t : Tile) (o : Option Tile) → better (Some (lesser best t)) o ≡ better best (better (Some t) o)
+better_assoc : (best : Option Tile) (t : Tile) (o : Option Tile) → better (Some (least_of best t)) o ≡ better best (better (Some t) o)
 better_assoc best t None = refl
 better_assoc None t (Some u) = refl
 better_assoc (Some b) t (Some u) = ap Some (lesser_assoc b t u)
 
-step_better : (layer : ℕ) (p : Pt) (best : Option Tile) (t : Tile) (o : Option Tile) → better (claimed layer p best t) o ≡ better best (better (claim layer p t) o)
+step_better : (layer : ℕ) (p : Pt) (best : Option Tile) (t : Tile) (o : Option Tile) → better (next_owner layer p best t) o ≡ better best (better (claim layer p t) o)
 step_better layer p best t o =
-    elim (claims layer p t) as (λ b. better (cond b (Some (lesser best t)) best) o ≡ better best (better (cond b (Some t) None) o)) [
+    elim (claims layer p t) as (λ b. better (cond b (Some (least_of best t)) best) o ≡ better best (better (cond b (Some t) None) o)) [
       | true ↦ better_assoc best t o
       | false ↦ ap (better best) (sym (better_none o))
     ]
 
 -- the owner among some tiles and more
-joined : (layer : ℕ) (p : Pt) (best : Option Tile) (ts : List Tile) → fold (claimed layer p) best ts ≡ better best (owner ts layer p)
+joined : (layer : ℕ) (p : Pt) (best : Option Tile) (ts : List Tile) → fold (next_owner layer p) best ts ≡ better best (owner ts layer p)
 joined layer p best [] = refl
 joined layer p best (t ∷ ts) =
-    joined layer p (claimed layer p best t) ts
+    joined layer p (next_owner layer p best t) ts
     ∙ (step_better layer p best t (owner ts layer p)
     ∙ ap (better best) (sym (joined layer p (claim layer p t) ts)))
 
@@ -55,7 +54,7 @@ pub owner-cons : (layer : ℕ) (p : Pt) (t : Tile) (ts : List Tile) → owner (t
 owner-cons layer p t ts = joined layer p (claim layer p t) ts
 
 pub owner-append : (layer : ℕ) (p : Pt) (xs ys : List Tile) → owner (xs ++ ys) layer p ≡ better (owner xs layer p) (owner ys layer p)
-owner-append layer p xs ys = fold-append (claimed layer p) None xs ys ∙ joined layer p (owner xs layer p) ys
+owner-append layer p xs ys = fold-append (next_owner layer p) None xs ys ∙ joined layer p (owner xs layer p) ys
 
 -- what an owner is to its tiles
 abbrev Tells : List Tile → ℕ → Pt → Option Tile → Type 0
@@ -73,18 +72,18 @@ none_claims layer p t ts h = All-weaker (λ u. claims layer p u ≡ false) (λ u
 keep_owner : (layer : ℕ) (p : Pt) (t u : Tile) (ts : List Tile) → (claims layer p t ≡ true → u.rank ≤ t.rank) → IsOwner ts layer p u → IsOwner (t ∷ ts) layer p u
 keep_owner layer p t u ts lower h = record {
   member = contains_more t u ts h.member;
-  covers = h.covers;
+  covering = h.covering;
   least = All-cons (λ (v : Tile). claims layer p v ≡ true → u.rank ≤ v.rank) t ts lower h.least;
 }
 
 new_owner : (layer : ℕ) (p : Pt) (t : Tile) (ts : List Tile) → claims layer p t ≡ true → All (λ u. claims layer p u ≡ true → t.rank ≤ u.rank) ts → IsOwner (t ∷ ts) layer p t
 new_owner layer p t ts does least = record {
   member = contains_first t ts;
-  covers = does;
+  covering = does;
   least = All-cons (λ (v : Tile). claims layer p v ≡ true → t.rank ≤ v.rank) t ts (λ _. omega arith) least;
 }
 
-choose : (layer : ℕ) (p : Pt) (t u : Tile) (ts : List Tile) → claims layer p t ≡ true → IsOwner ts layer p u → IsOwner (t ∷ ts) layer p (lesser (Some t) u)
+choose : (layer : ℕ) (p : Pt) (t u : Tile) (ts : List Tile) → claims layer p t ≡ true → IsOwner ts layer p u → IsOwner (t ∷ ts) layer p (least_of (Some t) u)
 choose layer p t u ts does h =
     (elim (nat_lt u.rank t.rank) as (λ b. nat_lt u.rank t.rank ≡ b → IsOwner (t ∷ ts) layer p (cond b u t)) [
       | true ↦ λ less. let r : u.rank < t.rank = ltb-true u.rank t.rank less in keep_owner layer p t u ts (λ _. omega arith) h
@@ -145,17 +144,17 @@ same_owner tiles others layer p None None ranks nets moved h k = refl
 same_owner tiles others layer p None (Some u) ranks nets moved h k =
     let inside = Contains-permutation others tiles u (IsPermutation-sym tiles others moved) k.member in
     let misses : claims layer p u ≡ false = All-contains (λ (v : Tile). claims layer p v ≡ false) tiles u h inside in
-    absurd (true≢false (sym k.covers ∙ misses))
+    absurd (true≢false (sym k.covering ∙ misses))
 same_owner tiles others layer p (Some t) None ranks nets moved h k =
     let inside = Contains-permutation tiles others t moved h.member in
     let misses : claims layer p t ≡ false = All-contains (λ (v : Tile). claims layer p v ≡ false) others t k inside in
-    absurd (true≢false (sym h.covers ∙ misses))
+    absurd (true≢false (sym h.covering ∙ misses))
 same_owner tiles others layer p (Some t) (Some u) ranks nets moved h k =
     let in_u : Contains tiles u = Contains-permutation others tiles u (IsPermutation-sym tiles others moved) k.member in
     let in_t : Contains others t = Contains-permutation tiles others t moved h.member in
-    let one : t.rank ≤ u.rank = All-contains (λ (v : Tile). claims layer p v ≡ true → t.rank ≤ v.rank) tiles u h.least in_u k.covers in
-    let two : u.rank ≤ t.rank = All-contains (λ (v : Tile). claims layer p v ≡ true → u.rank ≤ v.rank) others t k.least in_t h.covers in
-    ap Some (unique tiles layer p u t ranks nets in_u h.member k.covers h.covers (omega arith))
+    let one : t.rank ≤ u.rank = All-contains (λ (v : Tile). claims layer p v ≡ true → t.rank ≤ v.rank) tiles u h.least in_u k.covering in
+    let two : u.rank ≤ t.rank = All-contains (λ (v : Tile). claims layer p v ≡ true → u.rank ≤ v.rank) others t k.least in_t h.covering in
+    ap Some (unique tiles layer p u t ranks nets in_u h.member k.covering h.covering (omega arith))
 
 pub order_is_free : OrderIsFree
 order_is_free tiles others ranks nets moved = λ i layer p.
