@@ -14,6 +14,20 @@ use std::alloc::Global;
 use std::thread::Threads;
 
 /// Does all that the program does, and answers its status.
+///
+/// `words` are those after the program's name. `extract 1 RULES DEF LEF` writes the SPEF text of the design to `out`;
+/// no other words are listed. The files are read in the order of work: the LEF, the DEF, the rules.
+///
+/// # Statuses
+///
+/// * 0: all was done.
+/// * 1: the words have no listed form. `err` gets `rcx: usage`.
+/// * 2: the first refusal, whose line `err` gets.
+/// * 3: a file of the words failed. `err` gets `rcx: read fault NAME`.
+/// * 4: `out` or `err` failed.
+/// * 5: memory ran out. `err` gets `rcx: no memory`.
+///
+/// Nothing is written to `out` but at 0 and 4.
 pub fn run<R: Threads + Sync, F: Files, O: Sink, E: Sink>(
     _rt: &R,
     alloc: Global,
@@ -29,17 +43,15 @@ pub fn run<R: Threads + Sync, F: Files, O: Sink, E: Sink>(
         × WroteLine (sinks (O.written out.old) (O.written out.new) (E.written err.old) (E.written err.new)) usage_line }
     ensures listed { extract_of (map string_bytes words.now) ≡ None → (result ≡ 1) ⊎ (result ≡ 4) ⊎ (result ≡ 5) }
 
-    // 0: all was done.
-    ensures done { result ≡ 0 → IsTrue (F.tells files.old) → (text : List ℕ)
+    // 0: all was done. Over files that tell, the text is the one that they come to.
+    ensures done { result ≡ 0 → (text : List ℕ)
         × ComesTo (sources (F.tells files.old) (F.text files.old) (F.faults files.old) (F.faults files.new)) (map string_bytes words.now) (Done text)
         × WroteText (sinks (O.written out.old) (O.written out.new) (E.written err.old) (E.written err.new)) text }
-    ensures quiet { result ≡ 0 → E.written err.new ≡ E.written err.old }
 
-    // 2: the first refusal.
-    ensures refused { result ≡ 2 → IsTrue (F.tells files.old) → (line : List ℕ)
+    // 2: the first refusal. Over files that tell, the line is the one that they come to.
+    ensures refused { result ≡ 2 → (line : List ℕ)
         × ComesTo (sources (F.tells files.old) (F.text files.old) (F.faults files.old) (F.faults files.new)) (map string_bytes words.now) (Refused line)
         × WroteLine (sinks (O.written out.old) (O.written out.new) (E.written err.old) (E.written err.new)) line }
-    ensures refused_without_text { result ≡ 2 → O.written out.new ≡ O.written out.old }
 
     // 3: a file of the words failed, and nothing before it is missing or refused.
     ensures read_fault { result ≡ 3 → (asked : Asked) × (name : List ℕ)

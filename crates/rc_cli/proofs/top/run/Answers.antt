@@ -5,7 +5,7 @@ use Rattle.rc_cli.specs.Command.{file_name}
 use Rattle.rc_cli.proofs.top.run.Goals as goal
 
 pub returns-in-Err-Refused-clause-refused : goal.returns-in-Err-Refused-clause-refused
-returns-in-Err-Refused-clause-refused g c = λ two told.
+returns-in-Err-Refused-clause-refused g c = λ two.
     let stopped = rw c.in-Err-Refused.field-0-is at c.in-Err-Refused.ensures.stopped in (
       c.in-Err-Refused.line,
       (c.in-Some.asked, sym c.from_words.ensures ∙ c.in-Some.is, stopped),
