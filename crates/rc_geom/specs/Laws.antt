@@ -14,7 +14,7 @@ use Rattle.rc_geom.specs.Context.{layer_count, under, over}
 use Rattle.rc_geom.specs.Rates.{Rates}
 use Rattle.rc_geom.specs.Parts.{pair_key, shared_key, same_key, parts, worth_at, is_metal, sees, sees_grounded}
 use Rattle.rc_geom.specs.Sums.{Adding, IsNeutral, IsAdditive, total, total_between, square_sum}
-use Rattle.rc_geom.specs.Extraction.{parts_of, sum_in, key_value, key_count}
+use Rattle.rc_geom.specs.Extraction.{face_of, parts_of, sum_in, key_value, key_count}
 
 -- the tile is one of them, covers the square, and none that covers it has a lesser rank
 pub record IsOwner (tiles : List Tile) (layer : ℕ) (p : Pt) (t : Tile) : Type 0 where
@@ -233,3 +233,16 @@ abbrev pub PartsAreSound : Type 0 → Type 0 → Type 0
 PartsAreSound V W = (sound : W → Bool) (worth : V → W) (face : Face) (rate : V × V) →
     sound (worth rate.0) ≡ true → sound (worth rate.1) ≡ true →
     All (λ part. sound (worth part.amount) ≡ true) (parts face rate)
+
+-- a layer's square has that node's face, in a direction of an axis
+pub record IsFaceOf {V : Type 0} (plane : Plane) (rates : Rates V) (a : Metal) (axis layer : ℕ) (at along : ℤ) (up : Bool) : Type 0 where
+  pub an_axis : axis < 2
+  pub a_layer : layer < layer_count
+  pub owns : IsSomeAnd (face_of plane rates axis layer at along up) (λ face. face.own ≡ a)
+
+-- a node has parts for its own key exactly where it owns a face
+abbrev pub NodesOwnFaces : Type 0 → Type 0
+NodesOwnFaces V = (plane : Plane) (rates : Rates V) (r : Rect) (a : Metal) →
+    HoldsMetal r plane → 0 < a.1 →
+    (0 < key_count plane rates r (Ground a.0 a.1))
+    ↔ ((axis : ℕ) × (layer : ℕ) × (at : ℤ) × (along : ℤ) × (up : Bool) × IsFaceOf plane rates a axis layer at along up)
