@@ -1,6 +1,7 @@
 -- Where a key has parts.
 use Rattle.std.proofs.Common.{◌≡◌, ◌≤◌, ◌<◌, ◌+◌, ◌⊎◌, inl, inr, ⊎_elim, ℕ, zero, suc, ℤ, pos, ◌+ℤ◌, ◌-ℤ◌, ◌≤ℤ◌, ◌<ℤ◌, Bool, true, false, cond, not, [], Option, Some, None, refl, ap, sym, ◌∙◌, subst, arith}
-use Rattle.std.specs.Prelude.{◌==◌, ◌&&◌, ◌||◌, IsSomeAnd, is_some}
+use Rattle.std.proofs.lemmas.List.Elements.{All-nil}
+use Rattle.std.specs.Prelude.{All, IfSome, option_map, ◌==◌, ◌&&◌, ◌||◌, IsSomeAnd, is_some}
 use Rattle.std.specs.Option.{option_map_or}
 use Rattle.std.proofs.lemmas.Int.{ints}
 use Rattle.std.proofs.lemmas.Bool.{cases_lt, cases_Bool, and_parts, and_from, eqb-true, eq-eqb, true≢false}
@@ -10,17 +11,17 @@ use Rattle.rc_geom.specs.declared.key.Key.TheVariants.{Ground}
 use Rattle.rc_geom.specs.Rects.{covers}
 use Rattle.rc_geom.specs.Plane.{Metal, Plane, HoldsMetal, is_grounded}
 use Rattle.rc_geom.specs.Line.{Line, ray, line_of, square_of, at_distance}
-use Rattle.rc_geom.specs.Faces.{Face, Seen, face_at}
-use Rattle.rc_geom.specs.Context.{layer_count}
+use Rattle.rc_geom.specs.Faces.{Face, Seen, sight, face_at}
+use Rattle.rc_geom.specs.Context.{layer_count, under, over}
 use Rattle.rc_geom.specs.Rates.{Rates, rate_of}
-use Rattle.rc_geom.specs.Parts.{parts, worth_at, foreign_metal, is_metal, sees, sees_grounded}
+use Rattle.rc_geom.specs.Parts.{Part, parts, worth_at, foreign_metal, is_metal, sees, sees_grounded}
 use Rattle.rc_geom.specs.Sums.{numbers, total, natural, extent, total_between, first_line, end_line, first_place, end_place, both_directions, layer_sum, square_sum}
 use Rattle.rc_geom.specs.Extraction.{face_of, parts_of, count_in, key_count}
-use Rattle.rc_geom.specs.Laws.{IsFaceOf, NodesOwnFaces}
+use Rattle.rc_geom.specs.Laws.{IsFaceOf, NodesOwnFaces, RatesAreSound, SoundRatesSuffice}
 use Rattle.rc_geom.proofs.Totals.{total_none, total_suc, extent_is, counted, natural_is}
 use Rattle.rc_geom.proofs.Areas.{crosses, numbers_are_neutral}
-use Rattle.rc_geom.proofs.Rays.{face_tells, end_tells, ray-start, sight_is_mutual}
-use Rattle.rc_geom.proofs.Words.{nodes_in_words}
+use Rattle.rc_geom.proofs.Rays.{face_tells, end_tells, ray-start, sight_is_mutual, sight_tells, faces_are_thick}
+use Rattle.rc_geom.proofs.Words.{nodes_in_words, parts_are_sound}
 
 -- ---- totals of numbers
 
@@ -199,3 +200,26 @@ nodes_own_faces plane rates r a holds big = (
       let most = either_axis plane rates r (Ground a.0 a.1) found.0 found.5.an_axis in
       omega (arith, here, most),
 )
+
+-- ---- sound amounts
+
+seen_within : (reach : ℕ) (line : Line) (up : Bool) (z : ℤ) (s : Option Seen) → s ≡ sight reach (ray up line z) → IfSome (option_map {U = ℕ} (λ seen. seen.0) s) (λ d. (1 ≤ d) × (d ≤ reach))
+seen_within reach line up z None is = tt
+seen_within reach line up z (Some seen) is =
+    let first = sight_tells reach (ray up line z) seen.0 seen.1 (sym is) in
+    (first.least, first.most)
+
+face_sound : {V W : Type 0} (sound : W → Bool) (worth : V → W) (plane : Plane) (rates : Rates V) (axis layer : ℕ) (at along : ℤ) (up : Bool) (o : Option Face) → 1 ≤ rates.cap layer → RatesAreSound sound worth plane rates → face_of plane rates axis layer at along up ≡ o → IfSome o (λ face. (1 ≤ face.thick) × (face.thick ≤ rates.cap layer)) → All (λ part. sound (worth part.amount) ≡ true) (option_map_or (λ face. parts face (rate_of rates plane layer (square_of axis at along) face)) o [])
+face_sound {V = X} sound worth plane rates axis layer at along up None big each is thick = All-nil (λ (part : Part X). sound (worth part.amount) ≡ true)
+face_sound sound worth plane rates axis layer at along up (Some face) big each is thick =
+    let square = square_of axis at along in
+    let line = line_of plane layer axis at in
+    let told = face_tells (rates.cap layer) (rates.reach layer) line up along face is in
+    let metal : is_some (plane layer square) ≡ true = face_metal (rates.cap layer) (rates.reach layer) line up along (Some face) is tt in
+    let both = each layer square (under plane layer square) (over plane layer square) face.thick (option_map (λ seen. seen.0) face.sight) metal thick.0 thick.1 (seen_within (rates.reach layer) line up along face.sight told.2) in
+    parts_are_sound sound worth face (rate_of rates plane layer square face) both.0 both.1
+
+pub sound_rates_suffice : {V W : Type 0} → SoundRatesSuffice V W
+sound_rates_suffice sound worth plane rates caps each axis layer at along up =
+    face_sound sound worth plane rates axis layer at along up (face_of plane rates axis layer at along up) (caps layer) each refl
+    (faces_are_thick (rates.cap layer) (rates.reach layer) (line_of plane layer axis at) up along (caps layer))

@@ -1,5 +1,5 @@
 -- What holds of the definitions themselves.
-use Rattle.std.specs.Prelude.{◌≡◌, ◌≢◌, ◌↔◌, ◌<◌, ◌≤◌, ◌+◌, ℕ, ℤ, neg_ℤ, Bool, true, false, not, List, ◌∷◌, ◌++◌, Some, None, IsTrue, is_some, IfSome, IsSomeAnd, MatchOption, All, Contains, filter, ◌≤ℤ◌, ◌&&◌, ◌||◌, if◌then◌else◌}
+use Rattle.std.specs.Prelude.{Option, ◌≡◌, ◌≢◌, ◌↔◌, ◌<◌, ◌≤◌, ◌+◌, ℕ, ℤ, neg_ℤ, Bool, true, false, not, List, ◌∷◌, ◌++◌, Some, None, IsTrue, is_some, IfSome, IsSomeAnd, MatchOption, All, Contains, filter, ◌≤ℤ◌, ◌&&◌, ◌||◌, if◌then◌else◌}
 use Rattle.std.specs.List.Sorted.{IsPermutation}
 use Rattle.rc_geom.specs.declared.rect.Pt.{Pt}
 use Rattle.rc_geom.specs.declared.rect.Rect.{Rect}
@@ -125,6 +125,20 @@ TilesHoldMetal = (r : Rect) (tiles : List Tile) → HoldsTiles r tiles → Holds
 abbrev pub AmountsAreSound : {V W : Type 0} → (W → Bool) → (V → W) → Plane → Rates V → Type 0
 AmountsAreSound sound worth plane rates = (axis layer : ℕ) (at along : ℤ) (up : Bool) →
     All (λ part. sound (worth part.amount) ≡ true) (parts_of plane rates axis layer at along up)
+
+-- the rates that a face of the plane can have are sound: those of a layer that has metal, with a thickness from 1 to its
+-- cap, and with no gap or one from 1 to its reach
+abbrev pub RatesAreSound : {V W : Type 0} → (W → Bool) → (V → W) → Plane → Rates V → Type 0
+RatesAreSound sound worth plane rates =
+    (layer : ℕ) (p : Pt) (below above : Option ℕ) (thick : ℕ) (gap : Option ℕ) →
+    is_some (plane layer p) ≡ true → 1 ≤ thick → thick ≤ rates.cap layer →
+    IfSome gap (λ d. (1 ≤ d) × (d ≤ rates.reach layer)) →
+    (sound (worth (rates.rate layer below above thick gap).0) ≡ true) × (sound (worth (rates.rate layer below above thick gap).1) ≡ true)
+
+-- where these are sound, so is each amount that a face adds
+abbrev pub SoundRatesSuffice : Type 0 → Type 0 → Type 0
+SoundRatesSuffice V W = (sound : W → Bool) (worth : V → W) (plane : Plane) (rates : Rates V) →
+    ((layer : ℕ) → 1 ≤ rates.cap layer) → RatesAreSound sound worth plane rates → AmountsAreSound sound worth plane rates
 
 -- two rectangles that hold all metal have the same sums
 abbrev pub MetalBounds : Type 0 → Type 0 → Type 0
