@@ -10,3 +10,4 @@ pub mod Nearest
 pub mod Cuts
 pub mod Halos
 pub mod Words
+pub mod Entries

@@ -145,7 +145,7 @@ at_start : (up : Bool) (z : ℤ) → at_distance up z 0 ≡ z
 at_start true z = omega (arith, ints)
 at_start false z = omega (arith, ints)
 
-ray-start : (line : Line) (up : Bool) (z : ℤ) → ray up line z 0 ≡ line z
+pub ray-start : (line : Line) (up : Bool) (z : ℤ) → ray up line z 0 ≡ line z
 ray-start line up z = ap line (at_start up z)
 
 end_split : (c : Bool) (own : Metal) (first : Metal) → cond c None (Some first) ≡ Some own → (first ≡ own) × (c ≡ false)

@@ -69,7 +69,7 @@ total_trail adding sound laws n (suc b) f each nothing =
 
 -- ---- between two whole numbers
 
-natural_is : (z : ℤ) → pos 0 ≤ℤ z → pos (natural z) ≡ z
+pub natural_is : (z : ℤ) → pos 0 ≤ℤ z → pos (natural z) ≡ z
 natural_is (pos n) h = refl
 natural_is (negsuc n) h = omega (arith, ints)
 
@@ -84,7 +84,7 @@ pub extent_none : (lo hi : ℤ) → hi ≤ℤ lo → extent lo hi ≡ 0
 extent_none lo hi h = natural_none (hi -ℤ lo) (omega (arith, ints))
 
 -- a number that is counted up to lies between
-counted : (lo hi : ℤ) (k : ℕ) → k < extent lo hi → (lo +ℤ pos k) <ℤ hi
+pub counted : (lo hi : ℤ) (k : ℕ) → k < extent lo hi → (lo +ℤ pos k) <ℤ hi
 counted lo hi k less = by_lt_z lo hi
     (λ order. let e = extent_is lo hi (omega (arith, ints)) in omega (arith, ints, e))
     (λ order. let e = extent_none lo hi order in absurd (omega (arith, e)))

@@ -42,7 +42,7 @@ key_value adding plane rates r key =
 abbrev pub key_count : {V : Type 0} → Plane → Rates V → Rect → Key → ℕ
 key_count plane rates r key = count_in plane rates 0 r key + count_in plane rates 1 r key
 
--- the value to ground of a node; the coupling of two nodes of different nets, and how many faces of either see the other
+-- a node's own value; the coupling of two nodes of different nets, and how many faces of either see the other
 abbrev pub node_value : {V : Type 0} → Adding V → Plane → Rates V → Rect → Metal → V
 node_value adding plane rates r a = key_value adding plane rates r (Ground a.0 a.1)
 

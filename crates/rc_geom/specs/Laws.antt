@@ -1,5 +1,5 @@
 -- What holds of the definitions themselves.
-use Rattle.std.specs.Prelude.{◌≡◌, ◌≢◌, ◌↔◌, ◌<◌, ◌≤◌, ◌+◌, ℕ, ℤ, neg_ℤ, Bool, true, false, not, List, ◌∷◌, ◌++◌, Some, None, IsTrue, is_some, IfSome, IsSomeAnd, MatchOption, All, Contains, filter, ◌≤ℤ◌, ◌&&◌, ◌||◌, if◌then◌else◌}
+use Rattle.std.specs.Prelude.{Option, ◌≡◌, ◌≢◌, ◌↔◌, ◌<◌, ◌≤◌, ◌+◌, ℕ, ℤ, neg_ℤ, Bool, true, false, not, List, ◌∷◌, ◌++◌, Some, None, IsTrue, is_some, IfSome, IsSomeAnd, MatchOption, All, Contains, filter, ◌≤ℤ◌, ◌&&◌, ◌||◌, if◌then◌else◌}
 use Rattle.std.specs.List.Sorted.{IsPermutation}
 use Rattle.rc_geom.specs.declared.rect.Pt.{Pt}
 use Rattle.rc_geom.specs.declared.rect.Rect.{Rect}
@@ -14,7 +14,7 @@ use Rattle.rc_geom.specs.Context.{layer_count, under, over}
 use Rattle.rc_geom.specs.Rates.{Rates}
 use Rattle.rc_geom.specs.Parts.{pair_key, shared_key, same_key, parts, worth_at, is_metal, sees, sees_grounded}
 use Rattle.rc_geom.specs.Sums.{Adding, IsNeutral, IsAdditive, total, total_between, square_sum}
-use Rattle.rc_geom.specs.Extraction.{parts_of, sum_in, key_value, key_count}
+use Rattle.rc_geom.specs.Extraction.{face_of, parts_of, sum_in, key_value, key_count}
 
 -- the tile is one of them, covers the square, and none that covers it has a lesser rank
 pub record IsOwner (tiles : List Tile) (layer : ℕ) (p : Pt) (t : Tile) : Type 0 where
@@ -126,6 +126,20 @@ abbrev pub AmountsAreSound : {V W : Type 0} → (W → Bool) → (V → W) → P
 AmountsAreSound sound worth plane rates = (axis layer : ℕ) (at along : ℤ) (up : Bool) →
     All (λ part. sound (worth part.amount) ≡ true) (parts_of plane rates axis layer at along up)
 
+-- the rates that a face of the plane can have are sound: those of a layer that has metal, with a thickness from 1 to its
+-- cap, and with no gap or one from 1 to its reach
+abbrev pub RatesAreSound : {V W : Type 0} → (W → Bool) → (V → W) → Plane → Rates V → Type 0
+RatesAreSound sound worth plane rates =
+    (layer : ℕ) (p : Pt) (below above : Option ℕ) (thick : ℕ) (gap : Option ℕ) →
+    is_some (plane layer p) ≡ true → 1 ≤ thick → thick ≤ rates.cap layer →
+    IfSome gap (λ d. (1 ≤ d) × (d ≤ rates.reach layer)) →
+    (sound (worth (rates.rate layer below above thick gap).0) ≡ true) × (sound (worth (rates.rate layer below above thick gap).1) ≡ true)
+
+-- where these are sound, so is each amount that a face adds
+abbrev pub SoundRatesSuffice : Type 0 → Type 0 → Type 0
+SoundRatesSuffice V W = (sound : W → Bool) (worth : V → W) (plane : Plane) (rates : Rates V) →
+    ((layer : ℕ) → 1 ≤ rates.cap layer) → RatesAreSound sound worth plane rates → AmountsAreSound sound worth plane rates
+
 -- two rectangles that hold all metal have the same sums
 abbrev pub MetalBounds : Type 0 → Type 0 → Type 0
 MetalBounds V W =
@@ -233,3 +247,16 @@ abbrev pub PartsAreSound : Type 0 → Type 0 → Type 0
 PartsAreSound V W = (sound : W → Bool) (worth : V → W) (face : Face) (rate : V × V) →
     sound (worth rate.0) ≡ true → sound (worth rate.1) ≡ true →
     All (λ part. sound (worth part.amount) ≡ true) (parts face rate)
+
+-- a layer's square has that node's face, in a direction of an axis
+pub record IsFaceOf {V : Type 0} (plane : Plane) (rates : Rates V) (a : Metal) (axis layer : ℕ) (at along : ℤ) (up : Bool) : Type 0 where
+  pub an_axis : axis < 2
+  pub a_layer : layer < layer_count
+  pub owns : IsSomeAnd (face_of plane rates axis layer at along up) (λ face. face.own ≡ a)
+
+-- a node has parts for its own key exactly where it owns a face
+abbrev pub NodesOwnFaces : Type 0 → Type 0
+NodesOwnFaces V = (plane : Plane) (rates : Rates V) (r : Rect) (a : Metal) →
+    HoldsMetal r plane → 0 < a.1 →
+    (0 < key_count plane rates r (Ground a.0 a.1))
+    ↔ ((axis : ℕ) × (layer : ℕ) × (at : ℤ) × (along : ℤ) × (up : Bool) × IsFaceOf plane rates a axis layer at along up)

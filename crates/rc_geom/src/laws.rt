@@ -1,7 +1,7 @@
 //! What is proved of the definitions, each law on a function that does nothing.
 
 ghost use Rattle.rc_geom.specs.Line.{Line};
-ghost use Rattle.rc_geom.specs.Laws.{OwnersAreLeast, OrderIsFree, OwnersSuffice, IsMirrored, ThicknessIsARun, FacesAreThick, SightIsFirst, SightIsMutual, FacesAreLocal, UnderIsHighest, OverIsLowest, InnerSumsSuffice, TilesHoldMetal, MetalBounds, ValuesAreBounded, CutsAdd, LayersSwap, LinesDecide, HalosSuffice, NearTilesSuffice, SharesAreMutual, KeysAreTold, NodesInWords, CouplingsInWords, PartsAreSound};
+ghost use Rattle.rc_geom.specs.Laws.{OwnersAreLeast, OrderIsFree, OwnersSuffice, IsMirrored, ThicknessIsARun, FacesAreThick, SightIsFirst, SightIsMutual, FacesAreLocal, UnderIsHighest, OverIsLowest, InnerSumsSuffice, TilesHoldMetal, MetalBounds, ValuesAreBounded, CutsAdd, LayersSwap, LinesDecide, HalosSuffice, NearTilesSuffice, SharesAreMutual, KeysAreTold, NodesInWords, CouplingsInWords, PartsAreSound, SoundRatesSuffice, NodesOwnFaces};
 
 /// A square's owner is the tile of least rank among those that cover it; it has none only where no tile covers it.
 pub fn owners_are_least()
@@ -131,4 +131,15 @@ pub fn couplings_in_words<V, W>()
 /// Where both amounts of a face have a sound worth, so do its parts.
 pub fn parts_are_sound<V, W>()
     ensures { PartsAreSound V W }
+{}
+
+/// Where the rates of layers that have metal are sound, at the thicknesses and gaps that faces have, so is each amount
+/// that a face adds.
+pub fn sound_rates_suffice<V, W>()
+    ensures { SoundRatesSuffice V W }
+{}
+
+/// A node has parts for its own key exactly where it owns a face, in a rectangle that holds all metal.
+pub fn nodes_own_faces<V>()
+    ensures { NodesOwnFaces V }
 {}
