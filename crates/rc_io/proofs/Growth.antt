@@ -13,6 +13,7 @@ grown-grown None first second = refl
 grown-grown (Some held) first second = ap (λ bytes. Some bytes) (append_assoc held first second)
 
 -- the first `at` bytes, and then `count` of those after them
-pub grown-take : (held : Option (List ℕ)) (bytes : List ℕ) (at count : ℕ) → grown (grown held (take at bytes)) (take count (drop at bytes)) ≡ grown held (take (at + count) bytes)
+pub grown-take : (held : Option (List ℕ)) (bytes : List ℕ) (at count : ℕ)
+    → grown (grown held (take at bytes)) (take count (drop at bytes)) ≡ grown held (take (at + count) bytes)
 grown-take held bytes at count =
     grown-grown held (take at bytes) (take count (drop at bytes)) ∙ ap (grown held) (sym (take-add at count bytes))

@@ -8,11 +8,13 @@ grown (Some held) bytes = Some (held ++ bytes)
 
 -- from before to now some first bytes of these were appended, and nothing else
 abbrev pub GrewByPrefix : Option (List ℕ) → Option (List ℕ) → List ℕ → Type 0
-GrewByPrefix before now bytes = (count : ℕ) × (count ≤ length bytes) × (now ≡ grown before (take count bytes))
+GrewByPrefix before now bytes =
+    (count : ℕ) × (count ≤ length bytes) × (now ≡ grown before (take count bytes))
 
 -- the same, and not all of them
 abbrev pub GrewByLess : Option (List ℕ) → Option (List ℕ) → List ℕ → Type 0
-GrewByLess before now bytes = (count : ℕ) × (count < length bytes) × (now ≡ grown before (take count bytes))
+GrewByLess before now bytes =
+    (count : ℕ) × (count < length bytes) × (now ≡ grown before (take count bytes))
 
 -- appending nothing changes nothing
 abbrev pub GrowsByNothing : Type 0
@@ -20,4 +22,5 @@ GrowsByNothing = (held : Option (List ℕ)) → grown held [] ≡ held
 
 -- appending twice is appending both at once
 abbrev pub GrowsByBoth : Type 0
-GrowsByBoth = (held : Option (List ℕ)) (first second : List ℕ) → grown (grown held first) second ≡ grown held (first ++ second)
+GrowsByBoth = (held : Option (List ℕ)) (first second : List ℕ)
+    → grown (grown held first) second ≡ grown held (first ++ second)

@@ -79,7 +79,8 @@ after_call held = record held { calls = next_count held.calls }
 -- one fault more in the count at a place, and in no other
 abbrev pub after_fault : FilesInMemory → Option ℕ → FilesInMemory
 after_fault held None = record held { elsewhere = next_count held.elsewhere }
-after_fault held (Some place) = record held { counts = slice_set held.counts place (next_count (slice_index held.counts place)) }
+after_fault held (Some place) =
+    record held { counts = slice_set held.counts place (next_count (slice_index held.counts place)) }
 
 -- the file at a place stands at its front
 abbrev pub after_begin : FilesInMemory → Option ℕ → FilesInMemory

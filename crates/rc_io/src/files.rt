@@ -34,7 +34,8 @@ pub trait Files {
         ensures tells { tells self.new ≡ tells self.old }
         ensures text { (n : List ℕ) → text self.new n ≡ text self.old n }
         ensures begun { OnOk result (begun self.new name.now) }
-        ensures rest { OnOk result (IsTrue (tells self.old) → text self.old name.now ≡ Some (rest self.new)) }
+        ensures rest { OnOk result (IsTrue (tells self.old)
+            → text self.old name.now ≡ Some (rest self.new)) }
         ensures later { (n : List ℕ) → faults self.old n ≤ faults self.new n }
         ensures cause { OnErr result (Rose (faults self.old name.now) (faults self.new name.now)) };
 
@@ -51,9 +52,12 @@ pub trait Files {
         ensures text { (n : List ℕ) → text self.new n ≡ text self.old n }
         ensures begun { (n : List ℕ) → begun self.new n ↔ begun self.old n }
         ensures count { IfOk result (λ count. count ≤ length buffer.new) }
-        ensures bytes { IfOk result (λ count. IsTrue (tells self.old) → rest self.old ≡ take count buffer.new ++ rest self.new) }
-        ensures end { IfOk result (λ count. IsTrue (tells self.old) → (count ≡ 0) ↔ (rest self.old ≡ [])) }
+        ensures bytes { IfOk result (λ count. IsTrue (tells self.old)
+            → rest self.old ≡ take count buffer.new ++ rest self.new) }
+        ensures end { IfOk result (λ count. IsTrue (tells self.old)
+            → (count ≡ 0) ↔ (rest self.old ≡ [])) }
         ensures err { OnErr result (rest self.new ≡ rest self.old) }
         ensures later { (n : List ℕ) → faults self.old n ≤ faults self.new n }
-        ensures cause { OnErr result ((n : List ℕ) → begun self.old n → Rose (faults self.old n) (faults self.new n)) };
+        ensures cause { OnErr result ((n : List ℕ) → begun self.old n
+            → Rose (faults self.old n) (faults self.new n)) };
 }

@@ -57,13 +57,16 @@ impl Sink for Gather {
         requires { 0 < length piece.now }
         ensures some { IfOk result (λ count. 0 < count) }
         ensures count { IfOk result (λ count. count ≤ length piece.now) }
-        ensures bytes { IfOk result (λ count. self.new.bytes ≡ self.old.bytes ++ take count piece.now) }
+        ensures bytes { IfOk result (λ count.
+            self.new.bytes ≡ self.old.bytes ++ take count piece.now) }
         ensures err { OnErr result (self.new.bytes ≡ self.old.bytes) }
         ensures cause { HasCause self.old.faults self.new.faults result }
 
         ensures whole { IfOk result (λ count. count ≡ length piece.now) }
-        ensures appends { OnOk result (self.new ≡ record self.old { bytes = self.old.bytes ++ piece.now }) }
-        ensures counts { OnErr result (self.new ≡ record self.old { faults = next_count self.old.faults }) }
+        ensures appends { OnOk result
+            (self.new ≡ record self.old { bytes = self.old.bytes ++ piece.now }) }
+        ensures counts { OnErr result
+            (self.new ≡ record self.old { faults = next_count self.old.faults }) }
     {
         match self.bytes.extend_from_slice(piece) {
             Ok(()) => Ok(piece.len()),

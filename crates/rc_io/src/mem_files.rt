@@ -31,9 +31,20 @@ impl Model for MemFiles {
 
     ghost Value = { FilesInMemory };
 
-    ghost view = { λ held. record { files = held.files; most = held.most; failing = held.failing; calls = held.calls; begun = held.begun; done = held.done; counts = held.counts.items; elsewhere = held.elsewhere } };
+    ghost view = { λ held. record {
+      files = held.files;
+      most = held.most;
+      failing = held.failing;
+      calls = held.calls;
+      begun = held.begun;
+      done = held.done;
+      counts = held.counts.items;
+      elsewhere = held.elsewhere;
+    } };
 
-    ghost invariant = { λ held. (1 ≤ held.most) × (length held.counts.items ≡ length held.files) × ForSome held.begun (λ place. (place < length held.files) × (held.done ≤ length (content_at held.files place))) };
+    ghost invariant = { λ held. (1 ≤ held.most) × (length held.counts.items ≡ length held.files)
+        × ForSome held.begun (λ place. (place < length held.files)
+        × (held.done ≤ length (content_at held.files place))) };
 }
 
 impl MemFiles {
@@ -50,7 +61,16 @@ impl MemFiles {
         failing: List<u64>,
     ) -> Result<MemFiles, NoMemory>
         requires { 1 ≤ most }
-        ensures { IfOk result (λ held. held ≡ record { files = files; most = most; failing = failing; calls = 0; begun = None; done = 0; counts = replicate (length files) 0; elsewhere = 0 }) }
+        ensures { IfOk result (λ held. held ≡ record {
+          files = files;
+          most = most;
+          failing = failing;
+          calls = 0;
+          begun = None;
+          done = 0;
+          counts = replicate (length files) 0;
+          elsewhere = 0;
+        }) }
     {
         let counts = vec![in alloc; 0; files.items().len()]?;
         Ok(MemFiles {
@@ -145,9 +165,12 @@ impl Files for MemFiles {
         ensures later { (n : Elements ℕ) → faults_of self.old n ≤ faults_of self.new n }
         ensures cause { OnErr result (Rose (faults_of self.old name.now) (faults_of self.new name.now)) }
 
-        ensures fails { IsErr result ↔ (Contains self.old.failing (next_count self.old.calls) ⊎ (place_of self.old.files name.now ≡ None)) }
-        ensures begins { OnOk result (self.new ≡ after_begin (after_call self.old) (place_of self.old.files name.now)) }
-        ensures counts { OnErr result (self.new ≡ after_fault (after_call self.old) (place_of self.old.files name.now)) }
+        ensures fails { IsErr result ↔ (Contains self.old.failing (next_count self.old.calls)
+            ⊎ (place_of self.old.files name.now ≡ None)) }
+        ensures begins { OnOk result
+            (self.new ≡ after_begin (after_call self.old) (place_of self.old.files name.now)) }
+        ensures counts { OnErr result
+            (self.new ≡ after_fault (after_call self.old) (place_of self.old.files name.now)) }
     {
         let place = find(self.files.items(), name);
         let fails = self.fails_now();
@@ -169,15 +192,18 @@ impl Files for MemFiles {
         ensures text { (n : Elements ℕ) → content_of self.new n ≡ content_of self.old n }
         ensures begun { (n : Elements ℕ) → IsBegun self.new n ↔ IsBegun self.old n }
         ensures count { IfOk result (λ count. count ≤ length buffer.new) }
-        ensures bytes { IfOk result (λ count. rest_of self.old ≡ take count buffer.new ++ rest_of self.new) }
+        ensures bytes { IfOk result (λ count.
+            rest_of self.old ≡ take count buffer.new ++ rest_of self.new) }
         ensures end { IfOk result (λ count. (count ≡ 0) ↔ (rest_of self.old ≡ [])) }
         ensures err { OnErr result (rest_of self.new ≡ rest_of self.old) }
         ensures later { (n : Elements ℕ) → faults_of self.old n ≤ faults_of self.new n }
         ensures cause { OnErr result ((n : Elements ℕ) → IsBegun self.old n → Rose (faults_of self.old n) (faults_of self.new n)) }
 
         ensures fails { IsErr result ↔ Contains self.old.failing (next_count self.old.calls) }
-        ensures exact { IfOk result (λ count. count ≡ min (min (length buffer.old) self.old.most) (length (rest_of self.old))) }
-        ensures reads { IfOk result (λ count. self.new ≡ record (after_call self.old) { done = self.old.done + count }) }
+        ensures exact { IfOk result (λ count.
+            count ≡ min (min (length buffer.old) self.old.most) (length (rest_of self.old))) }
+        ensures reads { IfOk result (λ count.
+            self.new ≡ record (after_call self.old) { done = self.old.done + count }) }
         ensures counts { OnErr result (self.new ≡ after_fault (after_call self.old) self.old.begun) }
     {
         let fails = self.fails_now();

@@ -25,9 +25,17 @@ impl Model for MemSink {
 
     ghost Value = { SinkInMemory };
 
-    ghost view = { λ sink. record { bytes = sink.bytes.items; most = sink.most; room = sink.room; failing = sink.failing; calls = sink.calls; faults = sink.faults } };
+    ghost view = { λ sink. record {
+      bytes = sink.bytes.items;
+      most = sink.most;
+      room = sink.room;
+      failing = sink.failing;
+      calls = sink.calls;
+      faults = sink.faults;
+    } };
 
-    ghost invariant = { λ sink. (1 ≤ sink.most) × (length sink.bytes.items ≤ sink.room) × (sink.room ≤ vec_capacity sink.bytes) };
+    ghost invariant = { λ sink. (1 ≤ sink.most) × (length sink.bytes.items ≤ sink.room)
+        × (sink.room ≤ vec_capacity sink.bytes) };
 }
 
 impl MemSink {
@@ -44,7 +52,14 @@ impl MemSink {
         failing: List<u64>,
     ) -> Result<MemSink, NoMemory>
         requires { 1 ≤ most }
-        ensures { IfOk result (λ sink. sink ≡ record { bytes = []; most = most; room = room; failing = failing; calls = 0; faults = 0 }) }
+        ensures { IfOk result (λ sink. sink ≡ record {
+          bytes = [];
+          most = most;
+          room = room;
+          failing = failing;
+          calls = 0;
+          faults = 0;
+        }) }
     {
         Ok(MemSink {
             bytes: Vec::with_capacity(alloc, room)?,
@@ -81,11 +96,13 @@ impl Sink for MemSink {
         requires { 0 < length piece.now }
         ensures some { IfOk result (λ count. 0 < count) }
         ensures count { IfOk result (λ count. count ≤ length piece.now) }
-        ensures bytes { IfOk result (λ count. self.new.bytes ≡ self.old.bytes ++ take count piece.now) }
+        ensures bytes { IfOk result (λ count.
+            self.new.bytes ≡ self.old.bytes ++ take count piece.now) }
         ensures err { OnErr result (self.new.bytes ≡ self.old.bytes) }
         ensures cause { HasCause self.old.faults self.new.faults result }
 
-        ensures fails { IsErr result ↔ (Contains self.old.failing (next_count self.old.calls) ⊎ (self.old.room ≤ length self.old.bytes)) }
+        ensures fails { IsErr result ↔ (Contains self.old.failing (next_count self.old.calls)
+            ⊎ (self.old.room ≤ length self.old.bytes)) }
         ensures exact { IfOk result (λ count. count ≡ taken_len self.old (length piece.now)) }
         ensures appends { IfOk result (λ count. self.new ≡ after_write self.old (take count piece.now)) }
         ensures counts { OnErr result (self.new ≡ after_refusal self.old) }

@@ -35,7 +35,8 @@ pub fn read_whole<F: Files>(
     ensures tells { F.tells files.new ≡ F.tells files.old }
     ensures same { (n : List ℕ) → F.text files.new n ≡ F.text files.old n }
     ensures short { IfOk result (λ bytes. length bytes ≤ room) }
-    ensures whole { IfOk result (λ bytes. IsTrue (F.tells files.old) → F.text files.old name.now ≡ Some bytes) }
+    ensures whole { IfOk result (λ bytes. IsTrue (F.tells files.old)
+        → F.text files.old name.now ≡ Some bytes) }
     ensures long { IsErrOf result ReadEnd.Long → IsTrue (F.tells files.old)
         → (bytes : List ℕ) × (F.text files.old name.now ≡ Some bytes) × (room < length bytes) }
     ensures absent { IsTrue (F.tells files.old) → F.text files.old name.now ≡ None

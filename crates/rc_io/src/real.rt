@@ -24,7 +24,11 @@ impl<'a, R: rt::Files> Model for RealFiles<'a, R> {
 
     ghost Value = { OpenFile };
 
-    ghost view = { λ files. record { is_open = is_some files.file; left = option_and_then R.File.remaining files.file; faults = files.faults } };
+    ghost view = { λ files. record {
+      is_open = is_some files.file;
+      left = option_and_then R.File.remaining files.file;
+      faults = files.faults;
+    } };
 }
 
 impl<'a, R: rt::Files> RealFiles<'a, R> {
@@ -64,7 +68,8 @@ impl<'a, R: rt::Files> Files for RealFiles<'a, R> {
         ensures cause { OnErr result (Rose self.old.faults self.new.faults) }
 
         ensures begins { OnOk result (self.new.faults ≡ self.old.faults) }
-        ensures counts { OnErr result (self.new ≡ record self.old { faults = next_count self.old.faults }) }
+        ensures counts { OnErr result
+            (self.new ≡ record self.old { faults = next_count self.old.faults }) }
     {
         match fs::open(self.host, name) {
             Ok(file) => {

@@ -21,7 +21,8 @@ pub trait Sink {
         requires { 0 < length piece.now }
         ensures some { IfOk result (λ count. 0 < count) }
         ensures count { IfOk result (λ count. count ≤ length piece.now) }
-        ensures bytes { IfOk result (λ count. written self.new ≡ grown (written self.old) (take count piece.now)) }
+        ensures bytes { IfOk result (λ count.
+            written self.new ≡ grown (written self.old) (take count piece.now)) }
         ensures err { OnErr result (written self.new ≡ written self.old) }
         ensures cause { HasCause (faults self.old) (faults self.new) result };
 }
