@@ -61,7 +61,7 @@ within (suc n) inner outer h = record { line_low = h.left; line_high = h.right; 
 
 -- ---- squares that add nothing
 
-two_nothings : {V : Type 0} (adding : Adding V) (sound : V → Bool) → IsNeutral adding sound → (f : Bool → V) → ((up : Bool) → f up ≡ adding.none) → both_directions adding f ≡ adding.none
+pub two_nothings : {V : Type 0} (adding : Adding V) (sound : V → Bool) → IsNeutral adding sound → (f : Bool → V) → ((up : Bool) → f up ≡ adding.none) → both_directions adding f ≡ adding.none
 two_nothings adding sound laws f nothing =
     ap (λ v. adding.plus v (f true)) (nothing false)
     ∙ (ap (adding.plus adding.none) (nothing true) ∙ laws.before adding.none laws.start)

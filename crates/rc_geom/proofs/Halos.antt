@@ -26,17 +26,17 @@ use Rattle.rc_geom.proofs.Areas.{Crosses, crosses, covers_crossing, no_parts}
 
 -- ---- squares near a window
 
-grown_place : (axis : ℕ) (r : Rect) (halo : ℕ) (at along z : ℤ) → Crosses axis r at along → (along -ℤ pos halo) ≤ℤ z → z ≤ℤ (along +ℤ pos halo) → covers (grow r halo) (square_of axis at z) ≡ true
+pub grown_place : (axis : ℕ) (r : Rect) (halo : ℕ) (at along z : ℤ) → Crosses axis r at along → (along -ℤ pos halo) ≤ℤ z → z ≤ℤ (along +ℤ pos halo) → covers (grow r halo) (square_of axis at z) ≡ true
 grown_place zero r halo at along z c low high =
     covers_from (grow r halo) (square_of 0 at z) (record { left = omega (arith, ints, c.place_low); right = omega (arith, ints, c.place_high); below = omega (arith, ints, c.line_low); above = omega (arith, ints, c.line_high) })
 grown_place (suc n) r halo at along z c low high =
     covers_from (grow r halo) (square_of (suc n) at z) (record { left = omega (arith, ints, c.line_low); right = omega (arith, ints, c.line_high); below = omega (arith, ints, c.place_low); above = omega (arith, ints, c.place_high) })
 
-near_low : (up : Bool) (along : ℤ) (k halo : ℕ) → k ≤ halo → (along -ℤ pos halo) ≤ℤ at_distance up along k
+pub near_low : (up : Bool) (along : ℤ) (k halo : ℕ) → k ≤ halo → (along -ℤ pos halo) ≤ℤ at_distance up along k
 near_low true along k halo h = omega (arith, ints)
 near_low false along k halo h = omega (arith, ints)
 
-near_high : (up : Bool) (along : ℤ) (k halo : ℕ) → k ≤ halo → at_distance up along k ≤ℤ (along +ℤ pos halo)
+pub near_high : (up : Bool) (along : ℤ) (k halo : ℕ) → k ≤ halo → at_distance up along k ≤ℤ (along +ℤ pos halo)
 near_high true along k halo h = omega (arith, ints)
 near_high false along k halo h = omega (arith, ints)
 

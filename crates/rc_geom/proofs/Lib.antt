@@ -11,3 +11,4 @@ pub mod Cuts
 pub mod Halos
 pub mod Words
 pub mod Entries
+pub mod FarNets

@@ -14,7 +14,7 @@ use Rattle.rc_geom.specs.Laws.{NodesInWords, CouplingsInWords, PartsAreSound}
 use Rattle.rc_geom.proofs.KeyTests.{pair_low, pair_high}
 
 -- whether a key that may be there is that key
-abbrev is_key : Key → Option Key → Bool
+abbrev pub is_key : Key → Option Key → Bool
 is_key key None = false
 is_key key (Some k) = same_key k key
 

@@ -1,5 +1,5 @@
 -- What holds of the definitions themselves.
-use Rattle.std.specs.Prelude.{Option, ◌≡◌, ◌≢◌, ◌↔◌, ◌<◌, ◌≤◌, ◌+◌, ℕ, ℤ, neg_ℤ, Bool, true, false, not, List, ◌∷◌, ◌++◌, Some, None, IsTrue, is_some, IfSome, IsSomeAnd, MatchOption, All, Contains, filter, ◌≤ℤ◌, ◌&&◌, ◌||◌, if◌then◌else◌}
+use Rattle.std.specs.Prelude.{Option, ◌⊎◌, ◌≡◌, ◌≢◌, ◌↔◌, ◌<◌, ◌≤◌, ◌+◌, ℕ, ℤ, neg_ℤ, Bool, true, false, not, List, ◌∷◌, ◌++◌, Some, None, IsTrue, is_some, IfSome, IsSomeAnd, MatchOption, All, Contains, filter, ◌≤ℤ◌, ◌&&◌, ◌||◌, if◌then◌else◌}
 use Rattle.std.specs.List.Sorted.{IsPermutation}
 use Rattle.rc_geom.specs.declared.rect.Pt.{Pt}
 use Rattle.rc_geom.specs.declared.rect.Rect.{Rect}
@@ -260,3 +260,17 @@ NodesOwnFaces V = (plane : Plane) (rates : Rates V) (r : Rect) (a : Metal) →
     HoldsMetal r plane → 0 < a.1 →
     (0 < key_count plane rates r (Ground a.0 a.1))
     ↔ ((axis : ℕ) × (layer : ℕ) × (at : ℤ) × (along : ℤ) × (up : Bool) × IsFaceOf plane rates a axis layer at along up)
+
+-- a key is of a net: that of its node, or of one of its two nodes
+abbrev pub IsOfNet : ℕ → Key → Type 0
+IsOfNet n (Ground net node) = net ≡ n
+IsOfNet n (Pair net node other onode) = (net ≡ n) ⊎ (other ≡ n)
+
+-- where a window and its halo have no square of a net, the window has no part for a key of that net
+abbrev pub FarNetsAddNothing : Type 0 → Type 0 → Type 0
+FarNetsAddNothing V W =
+    (adding : Adding W) (sound : W → Bool) (worth : V → W) (plane : Plane) (rates : Rates V) →
+    (axis : ℕ) (window : Rect) (halo n : ℕ) (key : Key) →
+    IsNeutral adding sound → HaloReaches plane rates window halo →
+    ((layer : ℕ) (p : Pt) → covers (grow window halo) p ≡ true → is_net n (plane layer p) ≡ false) → IsOfNet n key →
+    sum_in adding worth plane rates axis window key ≡ adding.none
