@@ -12,3 +12,4 @@ pub mod SpefText
 pub mod Outcome
 pub mod Answers
 pub mod Work
+pub mod Laws

@@ -2,9 +2,11 @@
 #![tactic(auto)]
 
 mod command;
+mod laws;
 mod line;
 mod top;
 mod work;
 
+pub use laws::nodes_are_ends;
 pub use line::{tell_no_memory, tell_usage};
 pub use top::run;
