@@ -1,9 +1,29 @@
 -- What holds of the definitions of a layout and its parasitics.
-use Rattle.std.specs.Prelude.{◌≡◌, ◌↔◌, ◌⊎◌, ◌<ℤ◌, true, [], ◌∷◌}
+use Rattle.std.specs.Prelude.{◌≡◌, ◌↔◌, ◌⊎◌, ◌<◌, ◌≤◌, ◌<ℤ◌, ℕ, true, [], ◌∷◌, Some, MatchOption, slice_get}
+use Rattle.rc_geom.specs.declared.rect.Rect.{Rect}
 use Rattle.rc_geom.specs.declared.rect.Pt.{Pt}
+use Rattle.rc_geom.specs.Rects.{IsApart, IsLowestCommon}
 use Rattle.rc_geom.specs.Split.{middle}
 use Rattle.rc_cli.specs.DesignForm.{Wire, is_straight}
-use Rattle.rc_cli.specs.Layout.{nodes, is_before, lower_end, upper_end, along, nearest_node}
+use Rattle.rc_cli.specs.Layout.{Layout, Short, shapes, first_short, nodes, is_before, lower_end, upper_end, along, nearest_node}
+
+-- shapes i and j of the layout are these
+pub record AreShapes (layout : Layout) (i j : ℕ) (a b : Rect) : Type 0 where
+  pub order : i < j
+  pub first : slice_get (shapes layout) i ≡ Some a
+  pub second : slice_get (shapes layout) j ≡ Some b
+
+-- two shapes meet in the corner, and of all that meet theirs is the least later shape, and then the least earlier one
+pub record IsFirstShort (layout : Layout) (short : Short) : Type 0 where
+  pub meet : (a b : Rect) × AreShapes layout short.first short.second a b × IsLowestCommon a b short.corner
+  pub least : (i j : ℕ) (a b : Rect) (p : Pt) → AreShapes layout i j a b → IsLowestCommon a b p → (short.second < j) ⊎ ((short.second ≡ j) × (short.first ≤ i))
+
+-- no two shapes meet
+abbrev pub HasNoShort : Layout → Type 0
+HasNoShort layout = (i j : ℕ) (a b : Rect) → AreShapes layout i j a b → IsApart a b
+
+abbrev pub ShortsAreFirst : Type 0
+ShortsAreFirst = (layout : Layout) → MatchOption (first_short layout) (HasNoShort layout) (IsFirstShort layout)
 
 -- the nodes of a straight wire are its two ends, in order
 pub record AreNodes (wire : Wire) : Type 0 where

@@ -1,6 +1,12 @@
 //! What is proved of the definitions, each law on a function that does nothing.
 
-ghost use Rattle.rc_cli.specs.Laws.{NodesAreEnds};
+ghost use Rattle.rc_cli.specs.Laws.{ShortsAreFirst, NodesAreEnds};
+
+/// The first short is a pair of shapes that meet; none that meets has a lesser later shape, or the same one and a lesser
+/// earlier shape. There is none exactly where no two shapes meet.
+pub fn shorts_are_first()
+    ensures { ShortsAreFirst }
+{}
 
 /// The nodes of a wire are its two ends in order, and each unit square belongs to the nearer one.
 pub fn nodes_are_ends()
