@@ -1,6 +1,12 @@
 //! What is proved of the definitions, each law on a function that does nothing.
 
+ghost use Rattle.rc_cli.specs.Forms.{TechIsRead};
 ghost use Rattle.rc_cli.specs.Laws.{ShortsAreFirst, NodesAreEnds};
+
+/// A LEF file is read exactly where its words have the reduced form, as the value that they write.
+pub fn technology_is_read()
+    ensures { TechIsRead }
+{}
 
 /// The first short is a pair of shapes that meet; none that meets has a lesser later shape, or the same one and a lesser
 /// earlier shape. There is none exactly where no two shapes meet.
