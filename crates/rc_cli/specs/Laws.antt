@@ -1,11 +1,13 @@
 -- What holds of the definitions of a layout and its parasitics.
-use Rattle.std.specs.Prelude.{◌≡◌, ◌↔◌, ◌⊎◌, ◌<◌, ◌≤◌, ◌<ℤ◌, ℕ, true, [], ◌∷◌, Some, MatchOption, slice_get}
+use Rattle.std.specs.Prelude.{◌≡◌, ◌≢◌, ◌↔◌, ◌⊎◌, ◌<◌, ◌≤◌, ◌<ℤ◌, ℕ, true, [], ◌∷◌, Some, MatchOption, Contains, slice_get}
 use Rattle.rc_geom.specs.declared.rect.Rect.{Rect}
 use Rattle.rc_geom.specs.declared.rect.Pt.{Pt}
 use Rattle.rc_geom.specs.Rects.{IsApart, IsLowestCommon}
 use Rattle.rc_geom.specs.Split.{middle}
 use Rattle.rc_cli.specs.DesignForm.{Wire, is_straight}
+use Rattle.rc_cli.specs.RuleForm.{Rules}
 use Rattle.rc_cli.specs.Layout.{Layout, Short, shapes, first_short, nodes, is_before, lower_end, upper_end, along, nearest_node}
+use Rattle.rc_cli.specs.Parasitics.{end_of, couplings}
 
 -- shapes i and j of the layout are these
 pub record AreShapes (layout : Layout) (i j : ℕ) (a b : Rect) : Type 0 where
@@ -38,3 +40,10 @@ pub record IsParted (wire : Wire) (p : Pt) : Type 0 where
 
 abbrev pub NodesAreEnds : Type 0
 NodesAreEnds = (wire : Wire) → is_straight wire.from wire.to ≡ true → AreNodes wire × ((p : Pt) → IsParted wire p)
+
+-- a coupling stands in both nets, with one amount
+abbrev pub CouplingsAreMutual : Type 0
+CouplingsAreMutual = (layout : Layout) (rules : Rules) (i j : ℕ) (a b : Wire) (k m amount : ℕ) → i ≢ j →
+    slice_get layout.wires i ≡ Some a → slice_get layout.wires j ≡ Some b →
+    Contains (couplings layout rules (i, a)) (record { from = end_of (i, k); to = Some (end_of (j, m)); amount = amount })
+    ↔ Contains (couplings layout rules (j, b)) (record { from = end_of (j, m); to = Some (end_of (i, k)); amount = amount })

@@ -1,7 +1,7 @@
 //! What is proved of the definitions, each law on a function that does nothing.
 
 ghost use Rattle.rc_cli.specs.Forms.{TechIsRead};
-ghost use Rattle.rc_cli.specs.Laws.{ShortsAreFirst, NodesAreEnds};
+ghost use Rattle.rc_cli.specs.Laws.{ShortsAreFirst, NodesAreEnds, CouplingsAreMutual};
 
 /// A LEF file is read exactly where its words have the reduced form, as the value that they write.
 pub fn technology_is_read()
@@ -17,4 +17,9 @@ pub fn shorts_are_first()
 /// The nodes of a wire are its two ends in order, and each unit square belongs to the nearer one.
 pub fn nodes_are_ends()
     ensures { NodesAreEnds }
+{}
+
+/// A coupling stands in both of its nets, with one amount.
+pub fn couplings_are_mutual()
+    ensures { CouplingsAreMutual }
 {}
