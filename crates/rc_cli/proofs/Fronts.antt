@@ -3,10 +3,10 @@ use Rattle.std.proofs.Common.{◌≡◌, Bool, true, false, cond, ℕ, List, [],
 use Rattle.std.specs.Str.{bytes_eq}
 use Rattle.std.specs.List.{starts_with}
 use Rattle.std.proofs.lemmas.List.{append-nil}
-use Rattle.std.proofs.lemmas.Option.{same_Some}
+use Rattle.std.proofs.lemmas.Option.{same_Some, some_pair_parts}
 use Rattle.std.proofs.lemmas.Slice.Eq.{bytes_eq-Decides, starts_is}
 use Rattle.rc_cli.specs.Numbers.{is_name}
-use Rattle.rc_cli.specs.Phrases.{on, after, first_by, read_name, at_end, given}
+use Rattle.rc_cli.specs.Phrases.{on, after, first_word, first_by, read_name, at_end, given}
 
 -- where there are words after a front, they follow it
 after_by : {P : Type 0} (front words : List (List ℕ)) (b : Bool) → starts_with bytes_eq words front ≡ b → (after front words ≡ None → ⊥) → ((rest : List (List ℕ)) → words ≡ front ++ rest → after front words ≡ Some rest → P) → P
@@ -64,3 +64,16 @@ given_tells false value some = absurd (some refl)
 pub end_tells : {A : Type 0} (value v : A) (words : List (List ℕ)) → at_end value words ≡ Some v → (words ≡ []) × (value ≡ v)
 end_tells value v [] h = (refl, same_Some value v h)
 end_tells value v (word ∷ words) h = cc
+
+-- what holds in either case
+pub by_test : {P : Type 0} (test : Bool) → (test ≡ true → P) → (test ≡ false → P) → P
+by_test true passes fails = passes refl
+by_test false passes fails = fails refl
+
+pub by_some : {A P : Type 0} (o : Option A) → (o ≡ None → ⊥) → ((value : A) → o ≡ Some value → P) → P
+by_some None some next = absurd (some refl)
+by_some (Some value) some next = next value refl
+
+pub word_tells : (words rest : List (List ℕ)) (word : List ℕ) → first_word words ≡ Some (word, rest) → words ≡ word ∷ rest
+word_tells [] rest word h = cc
+word_tells (first ∷ words) rest word h = let parts = some_pair_parts first word words rest h in cc
