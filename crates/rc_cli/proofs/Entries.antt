@@ -8,10 +8,10 @@ use Rattle.std.proofs.lemmas.Option.{none-some, some_pair_parts}
 use Rattle.rc_geom.specs.declared.rect.Pt.{Pt}
 use Rattle.rc_cli.specs.Cut.{words_of}
 use Rattle.rc_cli.specs.Numbers.{coordinate}
-use Rattle.rc_cli.specs.Phrases.{after, read_name}
+use Rattle.rc_cli.specs.Phrases.{read_name}
 use Rattle.rc_cli.specs.DesignForm.{Wire, point, is_straight, wire, wires}
 use Rattle.rc_cli.specs.Forms.{IsEntry}
-use Rattle.rc_cli.proofs.Fronts.{by_some, by_test, after_tells, after_gives, first_tells, first_gives, name_tells, name_gives, given_tells}
+use Rattle.rc_cli.proofs.Fronts.{by_some, by_test, after_tells, after_gives, after_these, first_tells, first_gives, name_tells, name_gives, given_tells}
 
 -- the words of the punctuation
 dash_word : words_of (codes "-") ≡ codes "-" ∷ []
@@ -33,9 +33,6 @@ end_word = refl
 routed_words : words_of (codes "+ ROUTED") ≡ codes "+" ∷ codes "ROUTED" ∷ []
 unfolding words_of
 routed_words = refl
-
-after_these : (front words rest : List (List ℕ)) → front ≡ words → after front (words ++ rest) ≡ Some rest
-after_these front words rest same = rw same (after_gives words rest)
 
 -- the words of a point
 record IsPoint (words : List (List ℕ)) (p : Pt) (rest : List (List ℕ)) : Type 0 where

@@ -29,6 +29,9 @@ after_gives front rest =
 pub after_all : (front : List (List ℕ)) → after front front ≡ Some []
 after_all front = rw append-nil at (after_gives front [])
 
+pub after_these : (front words rest : List (List ℕ)) → front ≡ words → after front (words ++ rest) ≡ Some rest
+after_these front words rest same = rw same (after_gives words rest)
+
 -- a value beside the words after it
 abbrev beside : {A : Type 0} → List (List ℕ) → Option A → Option (A × List (List ℕ))
 beside rest o = on o (λ value. Some (value, rest))

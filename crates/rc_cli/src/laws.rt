@@ -1,6 +1,6 @@
 //! What is proved of the definitions, each law on a function that does nothing.
 
-ghost use Rattle.rc_cli.specs.Forms.{TechIsRead, DesignIsRead};
+ghost use Rattle.rc_cli.specs.Forms.{TechIsRead, DesignIsRead, RulesAreRead};
 ghost use Rattle.rc_cli.specs.Laws.{ShortsAreFirst, NodesAreEnds, CouplingsAreMutual};
 
 /// A LEF file is read exactly where its words have the reduced form, as the value that they write.
@@ -11,6 +11,11 @@ pub fn technology_is_read()
 /// The same of a DEF file, on the technology's layer.
 pub fn design_is_read()
     ensures { DesignIsRead }
+{}
+
+/// The same of a rule file.
+pub fn rules_are_read()
+    ensures { RulesAreRead }
 {}
 
 /// The first short is a pair of shapes that meet; none that meets has a lesser later shape, or the same one and a lesser

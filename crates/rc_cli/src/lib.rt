@@ -8,7 +8,8 @@ mod top;
 mod work;
 
 pub use laws::{
-    couplings_are_mutual, design_is_read, nodes_are_ends, shorts_are_first, technology_is_read,
+    couplings_are_mutual, design_is_read, nodes_are_ends, rules_are_read, shorts_are_first,
+    technology_is_read,
 };
 pub use line::{tell_no_memory, tell_usage};
 pub use top::run;
