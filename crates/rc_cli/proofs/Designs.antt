@@ -9,7 +9,7 @@ use Rattle.rc_cli.specs.Cut.{words_of}
 use Rattle.rc_cli.specs.Phrases.{first_word, read_name}
 use Rattle.rc_cli.specs.DesignForm.{Design, are_distinct, wires, design_of_words}
 use Rattle.rc_cli.specs.Forms.{IsDesignForm, DesignIsRead}
-use Rattle.rc_cli.proofs.Fronts.{by_some, after_tells, after_gives, after_all, first_tells, first_gives, word_tells, name_tells, name_gives, given_tells, end_tells}
+use Rattle.rc_cli.proofs.Readings.{by_some, after_tells, after_gives, after_all, first_tells, first_gives, word_tells, name_tells, name_gives, given_tells, end_tells}
 use Rattle.rc_cli.proofs.Entries.{wires_tell, wires_give}
 
 -- what follows the entries begins with no dash

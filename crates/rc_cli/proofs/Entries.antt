@@ -11,7 +11,7 @@ use Rattle.rc_cli.specs.Numbers.{coordinate}
 use Rattle.rc_cli.specs.Phrases.{read_name}
 use Rattle.rc_cli.specs.DesignForm.{Wire, point, is_straight, wire, wires}
 use Rattle.rc_cli.specs.Forms.{IsEntry}
-use Rattle.rc_cli.proofs.Fronts.{by_some, by_test, after_tells, after_gives, after_these, first_tells, first_gives, name_tells, name_gives, given_tells}
+use Rattle.rc_cli.proofs.Readings.{by_some, by_test, after_tells, after_gives, after_these, first_tells, first_gives, name_tells, name_gives, given_tells}
 
 -- the words of the punctuation
 dash_word : words_of (codes "-") ≡ codes "-" ∷ []

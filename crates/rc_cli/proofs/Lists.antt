@@ -12,7 +12,7 @@ use Rattle.rc_cli.specs.Numbers.{rule_number, length_in_units}
 use Rattle.rc_cli.specs.Phrases.{is_semicolon, each, list_by}
 use Rattle.rc_cli.specs.RuleForm.{table}
 use Rattle.rc_cli.specs.Forms.{Writes, IsRow}
-use Rattle.rc_cli.proofs.Fronts.{by_some, by_test, after_tells, after_these, given_tells}
+use Rattle.rc_cli.proofs.Readings.{by_some, by_test, after_tells, after_these, given_tells}
 
 each_tells : (read : List ℕ → Option ℕ) (words : List (List ℕ)) (numbers : List ℕ) → each read words ≡ Some numbers → Writes read words numbers
 each_tells read [] [] h = tt

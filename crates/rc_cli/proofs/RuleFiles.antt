@@ -10,7 +10,7 @@ use Rattle.rc_cli.specs.Numbers.{length_in_units, rule_number}
 use Rattle.rc_cli.specs.Phrases.{list_by}
 use Rattle.rc_cli.specs.RuleForm.{Rules, is_scale, table, rules_of_words}
 use Rattle.rc_cli.specs.Forms.{IsRuleForm, RulesAreRead}
-use Rattle.rc_cli.proofs.Fronts.{by_some, after_tells, after_gives, after_all, given_tells, end_tells}
+use Rattle.rc_cli.proofs.Readings.{by_some, after_tells, after_gives, after_all, given_tells, end_tells}
 use Rattle.rc_cli.proofs.Lists.{list_tells, list_gives, no_length, no_rule_number, table_tells, table_gives}
 
 -- the words that end a list, and go on

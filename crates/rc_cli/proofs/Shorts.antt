@@ -1,12 +1,13 @@
 -- The first short of a layout.
-use Rattle.std.proofs.Common.{◌≡◌, ◌<◌, inl, inr, ⊎_elim, ℕ, Bool, true, false, cond, List, take, Option, Some, None, refl, ap, sym, ◌∙◌, arith}
-use Rattle.std.specs.Prelude.{MatchOption, slice_get}
+use Rattle.std.proofs.Common.{◌≡◌, ◌<◌, inl, inr, ⊎_elim, ℕ, Bool, true, false, cond, List, take, Option, Some, None, refl, subst, ap, sym, ◌∙◌, arith}
+use Rattle.std.specs.Prelude.{IsTrue, MatchOption, slice_get}
+use Rattle.std.specs.Int.{int_max, int_min}
 use Rattle.std.specs.List.{filter_map}
 use Rattle.std.proofs.lemmas.Option.{same_Some}
 use Rattle.std.proofs.lemmas.Bool.{cases_lt}
 use Rattle.rc_geom.specs.declared.rect.Pt.{Pt}
 use Rattle.rc_geom.specs.declared.rect.Rect.{Rect}
-use Rattle.rc_geom.specs.Rects.{common, has_points, IsApart, IsLowestCommon}
+use Rattle.rc_geom.specs.Rects.{touches, has_points, IsApart, IsLowestCommon}
 use Rattle.rc_geom.proofs.Commons.{lowest_common, apart}
 use Rattle.rc_cli.specs.Layout.{Layout, Short, shapes, numbered_shapes, short_of, shorts, first_short}
 use Rattle.rc_cli.specs.Laws.{AreShapes, IsFirstShort, HasNoShort, ShortsAreFirst}
@@ -25,11 +26,15 @@ record IsShort (earlier later : ℕ × Rect) (short : Short) : Type 0 where
   second : short.second ≡ later.0
   corner : IsLowestCommon earlier.1 later.1 short.corner
 
+-- what two shapes have in common
+abbrev part_of : Rect → Rect → Rect
+part_of a b = record { x0 = int_max a.x0 b.x0; y0 = int_max a.y0 b.y0; x1 = int_min a.x1 b.x1; y1 = int_min a.y1 b.y1 }
+
 -- the short of two shapes that meet
 abbrev short_at : (ℕ × Rect) → (ℕ × Rect) → Short
-short_at earlier later = record { first = earlier.0; second = later.0; corner = record { x = (common earlier.1 later.1).x0; y = (common earlier.1 later.1).y0 } }
+short_at earlier later = record { first = earlier.0; second = later.0; corner = record { x = int_max earlier.1.x0 later.1.x0; y = int_max earlier.1.y0 later.1.y0 } }
 
-short_by : (earlier later : ℕ × Rect) (short : Short) (meets : Bool) → has_points (common earlier.1 later.1) ≡ meets → cond meets (Some (short_at earlier later)) None ≡ Some short → IsShort earlier later short
+short_by : (earlier later : ℕ × Rect) (short : Short) (meets : Bool) → has_points (part_of earlier.1 later.1) ≡ meets → cond meets (Some (short_at earlier later)) None ≡ Some short → IsShort earlier later short
 short_by earlier later short true meets is =
     let same : short_at earlier later ≡ short = same_Some _ _ is in
     record {
@@ -40,15 +45,15 @@ short_by earlier later short true meets is =
 short_by earlier later short false meets is = cc
 
 is_short : (earlier later : ℕ × Rect) (short : Short) → short_of earlier later ≡ Some short → IsShort earlier later short
-is_short earlier later short is = short_by earlier later short (has_points (common earlier.1 later.1)) refl is
+is_short earlier later short is = short_by earlier later short (has_points (part_of earlier.1 later.1)) refl is
 
-apart_by : (earlier later : ℕ × Rect) (meets : Bool) → has_points (common earlier.1 later.1) ≡ meets → cond meets (Some (short_at earlier later)) None ≡ None → IsApart earlier.1 later.1
+apart_by : (earlier later : ℕ × Rect) (meets : Bool) → has_points (part_of earlier.1 later.1) ≡ meets → cond meets (Some (short_at earlier later)) None ≡ None → IsApart earlier.1 later.1
 apart_by earlier later true meets is = cc
 apart_by earlier later false meets is = apart earlier.1 later.1 meets
 
 -- where two shapes give no short, they are apart
 are_apart : (earlier later : ℕ × Rect) → short_of earlier later ≡ None → IsApart earlier.1 later.1
-are_apart earlier later is = apart_by earlier later (has_points (common earlier.1 later.1)) refl is
+are_apart earlier later is = apart_by earlier later (has_points (part_of earlier.1 later.1)) refl is
 
 -- a shape that has no short with those before it is apart from them
 apart_from_before : (layout : Layout) (i j : ℕ) (a b : Rect) → AreShapes layout i j a b → first_with (numbered_shapes layout) (j, b) ≡ None → IsApart a b
@@ -59,9 +64,6 @@ apart_from_before layout i j a b two nothing =
 
 no_short : (layout : Layout) → HasNoHit (first_with (numbered_shapes layout)) (numbered_shapes layout) → HasNoShort layout
 no_short layout none = λ i j a b two. apart_from_before layout i j a b two (none j (j, b) (numbered_from_0_has (shapes layout) j b two.second))
-
-meet_not : (a b : Rect) (p : Pt) → IsApart a b → IsLowestCommon a b p → ⊥
-meet_not a b p apart meet = apart p meet.first meet.second
 
 -- the two shapes of a short, and those that come before them are apart
 record IsFound (layout : Layout) (short : Short) (a b : Rect) : Type 0 where
@@ -93,20 +95,20 @@ found_by layout short hit found =
       },
     )
 
-lower_not : (layout : Layout) (short : Short) (a b : Rect) (i j : ℕ) (c d : Rect) (p : Pt) → IsFound layout short a b → AreShapes layout i j c d → IsLowestCommon c d p → short.second ≡ j → i < short.first → ⊥
-lower_not layout short a b i j c d p found two meet same lower =
+lower_not : (layout : Layout) (short : Short) (a b : Rect) (i j : ℕ) (c d : Rect) (p : Pt) → IsFound layout short a b → AreShapes layout i j c d → IsTrue (touches c p) → IsTrue (touches d p) → short.second ≡ j → i < short.first → ⊥
+lower_not layout short a b i j c d p found two in_c in_d same lower =
     let one : d ≡ b = same_Some _ _ (sym two.second ∙ ap (slice_get (shapes layout)) (sym same) ∙ found.shapes.second) in
     let two' : AreShapes layout i short.second c b = record { order = rw same two.order; first = two.first; second = found.shapes.second } in
-    meet_not c b p (found.none_lower i c two' lower) (rw one at meet)
+    found.none_lower i c two' lower p in_c (subst (λ (b : Rect). IsTrue (touches b p)) one in_d)
 
 is_first : (layout : Layout) (short : Short) (a b : Rect) → IsFound layout short a b → IsFirstShort layout short
 is_first layout short a b found = record {
   meet = (a, b, found.shapes, found.corner);
-  least = λ i j c d p two meet.
+  least = λ i j c d p two in_c in_d.
       ⊎_elim (λ later. inl later) (λ not_later.
-      ⊎_elim (λ sooner. absurd (meet_not c d p (found.none_sooner i j c d two sooner) meet)) (λ not_sooner.
+      ⊎_elim (λ sooner. absurd (found.none_sooner i j c d two sooner p in_c in_d)) (λ not_sooner.
       let same : short.second ≡ j = omega arith in
-      ⊎_elim (λ lower. absurd (lower_not layout short a b i j c d p found two meet same lower)) (λ not_lower. inr (same, not_lower)) (cases_lt i short.first)) (cases_lt j short.second)) (cases_lt short.second j);
+      ⊎_elim (λ lower. absurd (lower_not layout short a b i j c d p found two in_c in_d same lower)) (λ not_lower. inr (same, not_lower)) (cases_lt i short.first)) (cases_lt j short.second)) (cases_lt short.second j);
 }
 
 first_short_is : (layout : Layout) (short : Short) → IsFirstHit (first_with (numbered_shapes layout)) (numbered_shapes layout) short → IsFirstShort layout short

@@ -10,7 +10,7 @@ use Rattle.rc_cli.specs.Numbers.{length_in_units}
 use Rattle.rc_cli.specs.Phrases.{read_name}
 use Rattle.rc_cli.specs.TechForm.{Tech, tech_of_words}
 use Rattle.rc_cli.specs.Forms.{IsTechForm, TechIsRead}
-use Rattle.rc_cli.proofs.Fronts.{after_tells, after_gives, after_all, first_tells, first_gives, name_tells, name_gives, given_tells, end_tells}
+use Rattle.rc_cli.proofs.Readings.{after_tells, after_gives, after_all, first_tells, first_gives, name_tells, name_gives, given_tells, end_tells}
 
 regroup : (a b c d : List (List ℕ)) (layer written : List ℕ) → a ++ layer ∷ b ++ written ∷ c ++ layer ∷ d ≡ a ++ (layer ∷ (b ++ (written ∷ (c ++ (layer ∷ d)))))
 regroup a b c d layer written = simp append_assoc

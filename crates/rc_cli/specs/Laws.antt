@@ -1,8 +1,8 @@
 -- What holds of the definitions of a layout and its parasitics.
-use Rattle.std.specs.Prelude.{◌≡◌, ◌≢◌, ◌↔◌, ◌⊎◌, ◌<◌, ◌≤◌, ◌<ℤ◌, ℕ, true, [], ◌∷◌, Some, MatchOption, Contains, slice_get}
+use Rattle.std.specs.Prelude.{◌≡◌, ◌≢◌, ◌↔◌, ◌⊎◌, ◌<◌, ◌≤◌, ◌<ℤ◌, ℕ, true, [], ◌∷◌, Some, MatchOption, Contains, IsTrue, slice_get}
 use Rattle.rc_geom.specs.declared.rect.Rect.{Rect}
 use Rattle.rc_geom.specs.declared.rect.Pt.{Pt}
-use Rattle.rc_geom.specs.Rects.{IsApart, IsLowestCommon}
+use Rattle.rc_geom.specs.Rects.{touches, IsApart, IsLowestCommon}
 use Rattle.rc_geom.specs.Split.{middle}
 use Rattle.rc_cli.specs.DesignForm.{Wire, is_straight}
 use Rattle.rc_cli.specs.RuleForm.{Rules}
@@ -15,10 +15,12 @@ pub record AreShapes (layout : Layout) (i j : ℕ) (a b : Rect) : Type 0 where
   pub first : slice_get (shapes layout) i ≡ Some a
   pub second : slice_get (shapes layout) j ≡ Some b
 
--- two shapes meet in the corner, and of all that meet theirs is the least later shape, and then the least earlier one
+-- two shapes meet in the corner, and of all two that have a point in common theirs is the least later shape, and then the least
+-- earlier one
 pub record IsFirstShort (layout : Layout) (short : Short) : Type 0 where
   pub meet : (a b : Rect) × AreShapes layout short.first short.second a b × IsLowestCommon a b short.corner
-  pub least : (i j : ℕ) (a b : Rect) (p : Pt) → AreShapes layout i j a b → IsLowestCommon a b p → (short.second < j) ⊎ ((short.second ≡ j) × (short.first ≤ i))
+  pub least : (i j : ℕ) (a b : Rect) (p : Pt) → AreShapes layout i j a b → IsTrue (touches a p) → IsTrue (touches b p) →
+      (short.second < j) ⊎ ((short.second ≡ j) × (short.first ≤ i))
 
 -- no two shapes meet
 abbrev pub HasNoShort : Layout → Type 0
