@@ -12,3 +12,5 @@ pub mod SpefText
 pub mod Outcome
 pub mod Answers
 pub mod Work
+pub mod Forms
+pub mod Laws

@@ -2,6 +2,7 @@
 #![tactic(auto)]
 
 mod command;
+mod laws;
 mod line;
 mod number;
 mod tech;
@@ -9,5 +10,9 @@ mod top;
 mod words;
 mod work;
 
+pub use laws::{
+    couplings_are_mutual, design_is_read, nodes_are_ends, rules_are_read, shorts_are_first,
+    technology_is_read,
+};
 pub use line::{tell_no_memory, tell_usage};
 pub use top::run;

@@ -1,0 +1,35 @@
+//! What is proved of the definitions, each law on a function that does nothing.
+
+ghost use Rattle.rc_cli.specs.Forms.{TechIsRead, DesignIsRead, RulesAreRead};
+ghost use Rattle.rc_cli.specs.Laws.{ShortsAreFirst, NodesAreEnds, CouplingsAreMutual};
+
+/// A LEF file is read exactly where its words have the reduced form, as the value that they write.
+pub fn technology_is_read()
+    ensures { TechIsRead }
+{}
+
+/// The same of a DEF file, on the technology's layer.
+pub fn design_is_read()
+    ensures { DesignIsRead }
+{}
+
+/// The same of a rule file.
+pub fn rules_are_read()
+    ensures { RulesAreRead }
+{}
+
+/// The first short is a pair of shapes that meet; none that meets has a lesser later shape, or the same one and a lesser
+/// earlier shape. There is none exactly where no two shapes meet.
+pub fn shorts_are_first()
+    ensures { ShortsAreFirst }
+{}
+
+/// The nodes of a wire are its two ends in order, and each unit square belongs to the nearer one.
+pub fn nodes_are_ends()
+    ensures { NodesAreEnds }
+{}
+
+/// A coupling stands in both of its nets, with one amount.
+pub fn couplings_are_mutual()
+    ensures { CouplingsAreMutual }
+{}
