@@ -1,13 +1,13 @@
 -- The common part of two rectangles.
-use Rattle.std.proofs.Common.{◌≡◌, ℤ, ◌≤ℤ◌, ◌<ℤ◌, Bool, true, false, sym, ap, ◌∙◌, arith}
-use Rattle.std.specs.Prelude.{int_lt, int_le, IsTrue, ◌&&◌, ◌↔◌}
+use Rattle.std.proofs.Common.{◌≡◌, ℤ, ◌≤ℤ◌, ◌<ℤ◌, true, false, sym, ap, ◌∙◌, arith}
+use Rattle.std.specs.Prelude.{int_lt, int_le, IsTrue, ◌↔◌}
 use Rattle.std.specs.Int.{int_max, int_min}
 use Rattle.std.proofs.lemmas.Int.{ints, clamps}
 use Rattle.std.proofs.lemmas.Bool.{and_parts, and_from}
 use Rattle.rc_geom.specs.declared.rect.Pt.{Pt}
 use Rattle.rc_geom.specs.declared.rect.Rect.{Rect}
-use Rattle.rc_geom.specs.Rects.{covers, touches, common, has_squares, has_points, SharesSquare, IsLowestCommon, IsApart}
-use Rattle.rc_geom.proofs.Tests.{lt_tells, le_tells, lt_passes, le_passes, Covered, Touched, covered, covers_from, touched, touches_from}
+use Rattle.rc_geom.specs.Rects.{common, has_squares, has_points, SharesSquare, IsLowestCommon, IsApart}
+use Rattle.rc_geom.proofs.Bounds.{lt_tells, le_tells, lt_passes, le_passes, covered, covers_from, touched, touches_from}
 
 -- the corner of the common part
 corner_of : Rect → Rect → Pt

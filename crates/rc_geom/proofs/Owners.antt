@@ -1,6 +1,6 @@
 -- The owner of a square.
-use Rattle.std.proofs.Common.{◌≡◌, ◌≢◌, ◌≤◌, ◌<◌, ◌+◌, ◌⊎◌, inl, inr, ⊎_elim, ℕ, zero, suc, Bool, true, false, cond, List, [], ◌∷◌, ◌++◌, length, get_or, Option, Some, None, refl, ap, sym, ◌∙◌, subst, arith}
-use Rattle.std.specs.Prelude.{All, Any, Contains, MatchOption, IsTrue, nat_lt, ◌==◌, ◌&&◌, option_map, fold}
+use Rattle.std.proofs.Common.{◌≡◌, ◌≢◌, ◌≤◌, ◌<◌, ⊎_elim, ℕ, suc, Bool, true, false, cond, List, [], ◌∷◌, ◌++◌, length, get_or, Option, Some, None, refl, ap, sym, ◌∙◌, subst, arith}
+use Rattle.std.specs.Prelude.{All, Contains, MatchOption, nat_lt, ◌==◌, option_map, fold}
 use Rattle.std.specs.List.Sorted.{IsPermutation}
 use Rattle.std.proofs.lemmas.List.{get_or_default}
 use Rattle.std.proofs.lemmas.List.Elements.{All-nil, All-cons, All-weaker, All-contains, Contains-append_cases}
@@ -9,10 +9,9 @@ use Rattle.std.proofs.lemmas.List.Sums.{fold-append}
 use Rattle.std.proofs.lemmas.Bool.{and_parts, eqb-true, cases_eq, cases_order, ltb-true, ltb-false, true≢false}
 use Rattle.std.proofs.lemmas.Bool.Decides.{nat_tests}
 use Rattle.rc_geom.specs.declared.rect.Pt.{Pt}
-use Rattle.rc_geom.specs.declared.rect.Rect.{Rect}
 use Rattle.rc_geom.specs.declared.tile.Tile.{Tile}
 use Rattle.rc_geom.specs.Rects.{covers}
-use Rattle.rc_geom.specs.Plane.{Metal, claims, lesser, claimed, owner, plane_of, Overlaps, RanksDiffer, NetsApart, NeverOwns}
+use Rattle.rc_geom.specs.Plane.{claims, lesser, claimed, owner, Overlaps, RanksDiffer, NetsApart, NeverOwns}
 use Rattle.rc_geom.specs.Laws.{IsOwner, OwnersAreLeast, OrderIsFree, OwnersSuffice}
 
 -- of two owners the one of less rank, the first where they tie
@@ -73,14 +72,14 @@ none_claims layer p t ts h = All-weaker (λ u. claims layer p u ≡ false) (λ u
 keep_owner : (layer : ℕ) (p : Pt) (t u : Tile) (ts : List Tile) → (claims layer p t ≡ true → u.rank ≤ t.rank) → IsOwner ts layer p u → IsOwner (t ∷ ts) layer p u
 keep_owner layer p t u ts lower h = record {
   member = contains_more t u ts h.member;
-  covers = h.covers;
+  covering = h.covering;
   least = All-cons (λ (v : Tile). claims layer p v ≡ true → u.rank ≤ v.rank) t ts lower h.least;
 }
 
 new_owner : (layer : ℕ) (p : Pt) (t : Tile) (ts : List Tile) → claims layer p t ≡ true → All (λ u. claims layer p u ≡ true → t.rank ≤ u.rank) ts → IsOwner (t ∷ ts) layer p t
 new_owner layer p t ts does least = record {
   member = contains_first t ts;
-  covers = does;
+  covering = does;
   least = All-cons (λ (v : Tile). claims layer p v ≡ true → t.rank ≤ v.rank) t ts (λ _. omega arith) least;
 }
 
@@ -145,17 +144,17 @@ same_owner tiles others layer p None None ranks nets moved h k = refl
 same_owner tiles others layer p None (Some u) ranks nets moved h k =
     let inside = Contains-permutation others tiles u (IsPermutation-sym tiles others moved) k.member in
     let misses : claims layer p u ≡ false = All-contains (λ (v : Tile). claims layer p v ≡ false) tiles u h inside in
-    absurd (true≢false (sym k.covers ∙ misses))
+    absurd (true≢false (sym k.covering ∙ misses))
 same_owner tiles others layer p (Some t) None ranks nets moved h k =
     let inside = Contains-permutation tiles others t moved h.member in
     let misses : claims layer p t ≡ false = All-contains (λ (v : Tile). claims layer p v ≡ false) others t k inside in
-    absurd (true≢false (sym h.covers ∙ misses))
+    absurd (true≢false (sym h.covering ∙ misses))
 same_owner tiles others layer p (Some t) (Some u) ranks nets moved h k =
     let in_u : Contains tiles u = Contains-permutation others tiles u (IsPermutation-sym tiles others moved) k.member in
     let in_t : Contains others t = Contains-permutation tiles others t moved h.member in
-    let one : t.rank ≤ u.rank = All-contains (λ (v : Tile). claims layer p v ≡ true → t.rank ≤ v.rank) tiles u h.least in_u k.covers in
-    let two : u.rank ≤ t.rank = All-contains (λ (v : Tile). claims layer p v ≡ true → u.rank ≤ v.rank) others t k.least in_t h.covers in
-    ap Some (unique tiles layer p u t ranks nets in_u h.member k.covers h.covers (omega arith))
+    let one : t.rank ≤ u.rank = All-contains (λ (v : Tile). claims layer p v ≡ true → t.rank ≤ v.rank) tiles u h.least in_u k.covering in
+    let two : u.rank ≤ t.rank = All-contains (λ (v : Tile). claims layer p v ≡ true → u.rank ≤ v.rank) others t k.least in_t h.covering in
+    ap Some (unique tiles layer p u t ranks nets in_u h.member k.covering h.covering (omega arith))
 
 pub order_is_free : OrderIsFree
 order_is_free tiles others ranks nets moved = λ i layer p.

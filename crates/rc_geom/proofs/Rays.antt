@@ -1,13 +1,12 @@
 -- Lines, rays and what they meet.
 use mathlib.Core.Path.{Path}
-use Rattle.std.proofs.Common.{◌≡◌, ◌≤◌, ◌<◌, ◌+◌, ◌-◌, ◌⊎◌, inl, inr, ⊎_elim, ℕ, zero, suc, ℤ, pos, ◌+ℤ◌, ◌-ℤ◌, neg_ℤ, Bool, true, false, cond, not, map, length, get_or, Option, Some, None, refl, ap, sym, ◌∙◌, subst, arith}
-use Rattle.std.specs.Prelude.{is_some, IfSome, IsSomeAnd, ◌↔◌, nat_le, ◌==◌, ◌&&◌, option_map}
+use Rattle.std.proofs.Common.{◌≡◌, ◌≤◌, ◌<◌, ◌+◌, ◌-◌, ⊎_elim, ℕ, ℤ, pos, ◌+ℤ◌, ◌-ℤ◌, neg_ℤ, Bool, true, false, cond, not, map, length, get_or, Option, Some, None, refl, ap, sym, ◌∙◌, subst, arith}
+use Rattle.std.specs.Prelude.{is_some, IfSome, IsSomeAnd, nat_le, ◌&&◌, option_map}
 use Rattle.std.specs.Option.{option_and_then}
-use Rattle.std.specs.List.{prefix_len, position_or_len, range_with_len}
+use Rattle.std.specs.List.{range_with_len}
 use Rattle.std.proofs.lemmas.List.FromFn.{length-map-range_with_len, get_or-map-range_with_len}
 use Rattle.std.proofs.lemmas.List.Sums.{prefix_len_is, prefix_len-le-length, prefix_len_passes, prefix_len_stops, position_or_len_is, fails_before_first, passes_at_first}
 use Rattle.std.proofs.lemmas.Bool.{le-leb, leb-true, true≢false, cases_lt, and_parts, eq-eqb}
-use Rattle.std.proofs.lemmas.Bool.Decides.{nat_tests}
 use Rattle.std.proofs.lemmas.Int.{ints}
 use Rattle.rc_geom.specs.Plane.{Metal}
 use Rattle.rc_geom.specs.Line.{Line, Ray, ray, mirror, at_distance}
@@ -242,3 +241,9 @@ sight_is_mutual cap reach line up z face d metal is sees =
     subst Good
     (sym (ap (option_map (face_with cap reach (ray (not up) line there) (ray (not (not up)) line there))) net_ends))
     (refl, sight_is reach (ray (not up) line there) d face.own (seen_back reach line up z d face.own metal first.0 seen))
+
+-- where there is no metal there is no face
+pub no_face : (cap reach : ℕ) (line : Line) (up : Bool) (z : ℤ) → line z ≡ None → face_at cap reach line up z ≡ None
+no_face cap reach line up z bare =
+    ap (λ (o : Option Metal). option_map (face_with cap reach (ray up line z) (ray (not up) line z)) (option_and_then (λ (own : Metal). cond (is_net own.0 (ray up line z 1)) None (Some own)) o))
+    (ray-start line up z ∙ bare)

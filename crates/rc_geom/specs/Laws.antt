@@ -1,17 +1,24 @@
 -- What holds of the definitions themselves.
-use Rattle.std.specs.Prelude.{◌≡◌, ◌≢◌, ◌↔◌, ◌<◌, ◌≤◌, ◌+◌, ℕ, ℤ, neg_ℤ, Bool, true, false, not, List, ◌∷◌, ◌++◌, Option, Some, None, IfSome, IsSomeAnd, MatchOption, All, Contains}
+use Rattle.std.specs.Prelude.{◌≡◌, ◌≢◌, ◌↔◌, ◌<◌, ◌≤◌, ◌+◌, ℕ, ℤ, neg_ℤ, Bool, true, false, not, List, ◌∷◌, ◌++◌, Some, None, IsTrue, IfSome, IsSomeAnd, MatchOption, All, Contains}
 use Rattle.std.specs.List.Sorted.{IsPermutation}
 use Rattle.rc_geom.specs.declared.rect.Pt.{Pt}
 use Rattle.rc_geom.specs.declared.rect.Rect.{Rect}
 use Rattle.rc_geom.specs.declared.tile.Tile.{Tile}
-use Rattle.rc_geom.specs.Plane.{Metal, claims, owner, plane_of, RanksDiffer, NetsApart, NeverOwns}
-use Rattle.rc_geom.specs.Line.{Line, Ray, ray, mirror, at_distance}
+use Rattle.rc_geom.specs.declared.key.Key.{Key}
+use Rattle.rc_geom.specs.declared.key.Key.TheVariants.{Ground, Pair}
+use Rattle.rc_geom.specs.Rects.{covers, IsInside}
+use Rattle.rc_geom.specs.Plane.{Metal, Plane, claims, owner, plane_of, RanksDiffer, NetsApart, NeverOwns, HoldsTiles, HoldsMetal}
+use Rattle.rc_geom.specs.Line.{Line, Ray, ray, mirror, at_distance, square_of}
 use Rattle.rc_geom.specs.Faces.{Face, face_at, is_net, thickness, sight}
+use Rattle.rc_geom.specs.Rates.{Rates}
+use Rattle.rc_geom.specs.Parts.{pair_key, shared_key, same_key}
+use Rattle.rc_geom.specs.Sums.{Adding, IsNeutral, square_sum}
+use Rattle.rc_geom.specs.Extraction.{sum_in, key_value, key_count}
 
 -- the tile is one of them, covers the square, and none that covers it has a lesser rank
 pub record IsOwner (tiles : List Tile) (layer : ℕ) (p : Pt) (t : Tile) : Type 0 where
   pub member : Contains tiles t
-  pub covers : claims layer p t ≡ true
+  pub covering : claims layer p t ≡ true
   pub least : All (λ u. claims layer p u ≡ true → t.rank ≤ u.rank) tiles
 
 -- a square has an owner, or no tile covers it
@@ -59,3 +66,39 @@ abbrev pub SightIsMutual : Type 0
 SightIsMutual = (cap reach : ℕ) (line : Line) (up : Bool) (z : ℤ) (face : Face) (d : ℕ) (metal : Metal) →
     face_at cap reach line up z ≡ Some face → face.sight ≡ Some (d, metal) →
     IsSomeAnd (face_at cap reach line (not up) (at_distance up z (d + 1))) (λ other. (other.own ≡ metal) × (other.sight ≡ Some (d, face.own)))
+
+-- where squares outside the inner rectangle add nothing, the outer one has the same sum
+abbrev pub InnerSumsSuffice : Type 0 → Type 0
+InnerSumsSuffice V = (adding : Adding V) (axis : ℕ) (inner outer : Rect) (f : ℕ → ℤ → ℤ → Bool → V) →
+    IsNeutral adding → IsInside inner outer →
+    ((layer : ℕ) (at along : ℤ) (up : Bool) → covers outer (square_of axis at along) ≡ true → covers inner (square_of axis at along) ≡ false → f layer at along up ≡ adding.none) →
+    square_sum adding axis outer f ≡ square_sum adding axis inner f
+
+-- where all tiles lie in a rectangle, all metal does
+abbrev pub TilesHoldMetal : Type 0
+TilesHoldMetal = (r : Rect) (tiles : List Tile) → HoldsTiles r tiles → HoldsMetal r (plane_of tiles)
+
+-- two rectangles that hold all metal have the same sums
+abbrev pub MetalBounds : Type 0 → Type 0 → Type 0
+MetalBounds V W = (adding : Adding W) (worth : V → W) (plane : Plane) (rates : Rates V) (axis : ℕ) (r s : Rect) (key : Key) →
+    IsNeutral adding → HoldsMetal r plane → HoldsMetal s plane →
+    sum_in adding worth plane rates axis r key ≡ sum_in adding worth plane rates axis s key
+
+-- so the values and the counts of both axes are the same
+abbrev pub ValuesAreBounded : Type 0 → Type 0
+ValuesAreBounded V = (adding : Adding V) (plane : Plane) (rates : Rates V) (r s : Rect) (key : Key) →
+    IsNeutral adding → HoldsMetal r plane → HoldsMetal s plane →
+    (key_value adding plane rates r key ≡ key_value adding plane rates s key) × (key_count plane rates r key ≡ key_count plane rates s key)
+
+-- a key stands for one node or for two, and a pair's nets are in order
+abbrev pub IsInOrder : Key → Type 0
+IsInOrder (Ground net node) = Unit {0}
+IsInOrder (Pair net node other onode) = net < other
+
+-- what two metals of different nets share has one key, from either side, and its nets are in order
+abbrev pub SharesAreMutual : Type 0
+SharesAreMutual = (a b : Metal) → a.0 ≢ b.0 → (pair_key a b ≡ pair_key b a) × IsInOrder (pair_key a b) × (shared_key a b ≡ shared_key b a)
+
+-- the test of keys tells whether they are one
+abbrev pub KeysAreTold : Type 0
+KeysAreTold = (a b : Key) → IsTrue (same_key a b) ↔ (a ≡ b)

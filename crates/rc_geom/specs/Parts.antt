@@ -1,5 +1,5 @@
 -- What a face adds, and to which keys.
-use Rattle.std.specs.Prelude.{ℕ, Bool, false, Option, Some, None, List, [], ◌++◌, nat_lt, ◌==◌, ◌&&◌, if◌then◌else◌, option_map, fold}
+use Rattle.std.specs.Prelude.{Bool, false, Option, Some, None, List, ◌++◌, nat_lt, ◌==◌, ◌&&◌, if◌then◌else◌, option_map, fold}
 use Rattle.std.specs.Option.{option_to_list, option_and_then}
 use Rattle.rc_geom.specs.declared.key.Key.{Key}
 use Rattle.rc_geom.specs.declared.key.Key.TheVariants.{Ground, Pair}

@@ -1,5 +1,5 @@
 -- Rectangles, and the unit squares and points in them. A unit square is named by its lower left corner.
-use Rattle.std.specs.Prelude.{ℤ, pos, negsuc, int_lt, int_le, ◌≤ℤ◌, ◌<ℤ◌, ◌^◌, ◌+◌, ◌&&◌, Bool, IsTrue}
+use Rattle.std.specs.Prelude.{pos, negsuc, int_lt, int_le, ◌≤ℤ◌, ◌<ℤ◌, ◌^◌, ◌+◌, ◌&&◌, Bool, IsTrue}
 use Rattle.std.specs.Int.{int_max, int_min}
 use Rattle.rc_geom.specs.declared.rect.Pt.{Pt}
 use Rattle.rc_geom.specs.declared.rect.Rect.{Rect}

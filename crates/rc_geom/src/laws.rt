@@ -1,7 +1,7 @@
 //! What is proved of the definitions, each law on a function that does nothing.
 
 ghost use Rattle.rc_geom.specs.Line.{Line};
-ghost use Rattle.rc_geom.specs.Laws.{OwnersAreLeast, OrderIsFree, OwnersSuffice, IsMirrored, ThicknessIsARun, FacesAreThick, SightIsFirst, SightIsMutual};
+ghost use Rattle.rc_geom.specs.Laws.{OwnersAreLeast, OrderIsFree, OwnersSuffice, IsMirrored, ThicknessIsARun, FacesAreThick, SightIsFirst, SightIsMutual, InnerSumsSuffice, TilesHoldMetal, MetalBounds, ValuesAreBounded, SharesAreMutual, KeysAreTold};
 
 /// A square's owner is the tile of least rank among those that cover it; it has none only where no tile covers it.
 pub fn owners_are_least()
@@ -43,4 +43,34 @@ pub fn sight_is_first()
 /// Where a face sees metal behind a gap, the face of that metal that looks back sees the first one's behind the same gap.
 pub fn sight_is_mutual()
     ensures { SightIsMutual }
+{}
+
+/// A rectangle's sum is that of a smaller one in it, where the squares outside the smaller one add nothing.
+pub fn inner_sums_suffice<V>()
+    ensures { InnerSumsSuffice V }
+{}
+
+/// A rectangle that holds all tiles holds all metal of their plane.
+pub fn tiles_hold_metal()
+    ensures { TilesHoldMetal }
+{}
+
+/// Rectangles that hold all metal of a plane have the same sums: amounts of `V`, each by its worth in `W`.
+pub fn metal_bounds<V, W>()
+    ensures { MetalBounds V W }
+{}
+
+/// Rectangles that hold all metal of a plane have the same values and the same counts.
+pub fn values_are_bounded<V>()
+    ensures { ValuesAreBounded V }
+{}
+
+/// What metals of two nets share has one key, from either side, and in a pair the lower net comes first.
+pub fn shares_are_mutual()
+    ensures { SharesAreMutual }
+{}
+
+/// The test of two keys passes exactly where they are one.
+pub fn keys_are_told()
+    ensures { KeysAreTold }
 {}

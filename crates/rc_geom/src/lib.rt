@@ -9,6 +9,8 @@ mod key;
 pub mod laws;
 mod midpoint;
 mod rect;
+#[cfg(test)]
+mod tests;
 mod tile;
 
 pub use key::Key;

@@ -76,13 +76,11 @@ pub fn meets(a: Rect, b: Rect) -> bool
 
 /// The lower left corner of the common part of two closed rectangles, edges and corners included; None where they have
 /// no common point.
+#[tactic(auto, using(crate::proofs::Commons::apart_at))]
 pub fn meets_closed(a: Rect, b: Rect) -> Option<Pt>
     ensures { MatchOption result (IsApart a b) (IsLowestCommon a b) }
 {
     let part = common(a, b);
-    if has_points(part) {
-        Some(corner(part))
-    } else {
-        None
-    }
+    let touching = has_points(part);
+    if touching { Some(corner(part)) } else { None }
 }
