@@ -1,0 +1,4 @@
+pub mod Ranges
+pub mod Squares
+pub mod Axes
+pub mod Worths
