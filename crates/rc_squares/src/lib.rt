@@ -12,4 +12,4 @@ mod sums;
 pub use faces::{Face, Seen, context, face_at, sight, thickness};
 pub use rates::FaceRates;
 pub use square::{Metal, metal_at};
-pub use sums::Sum;
+pub use sums::{Sum, key_sum, sum_in};

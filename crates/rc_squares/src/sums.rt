@@ -1,4 +1,5 @@
-ghost use Rattle.std.specs.Prelude.{◌≡◌, ◌+◌, ◌+ℤ◌, ◌<◌, ◌≤◌, ◌^◌, pos, Some, All, IsTrue, Any, IfSome, option_map, ◌↔◌};
+ghost use Rattle.std.specs.Prelude.{◌≡◌, ◌+◌, ◌+ℤ◌, ◌<◌, ◌≤◌, ◌^◌, pos, Some, All, IfSome, option_map, ◌==◌};
+ghost use Rattle.std.specs.List.{list_any};
 ghost use Rattle.rc_geom.specs.Rects.{IsNear, IsNearRect};
 ghost use Rattle.rc_geom.specs.Plane.{plane_of};
 ghost use Rattle.rc_geom.specs.Parts.{same_key as same_key_of};
@@ -139,4 +140,95 @@ fn line_sum<const A: usize, R: FaceRates>(
         sum = plus(sum, square_sum::<A, R>(tiles, rates, layer, key, at));
     }
     sum
+}
+
+/// Whether a tile lies on the layer.
+fn has_tiles(tiles: &[Tile], layer: u8) -> bool
+    ensures { result ≡ list_any (λ tile. tile.layer == layer) tiles.now }
+{
+    for tile in tiles {
+        if tile.layer == layer {
+            return true;
+        }
+    }
+    false
+}
+
+/// What the faces of the lines of the axis in a rectangle add to a key.
+#[tactic(auto, using(rc_geom::proofs::Totals::total_steps))]
+fn lines_sum<const A: usize, R: FaceRates>(
+    tiles: &[Tile],
+    rates: &R,
+    layer: u8,
+    key: Key,
+    area: &Rect,
+) -> Sum
+    requires layer { layer < 32 }
+    requires rules { All (λ tile. R.has_rules rates.now tile.layer) tiles.now }
+    requires area { IsNearRect area.now }
+    ensures count { result.count ≡ lines_worth one (plane_of tiles.now) (R.rates_of rates.now) layer key A area.now (extent (first_line A area.now) (end_line A area.now)) }
+    ensures value { result.value ≡ lines_worth amount (plane_of tiles.now) (R.rates_of rates.now) layer key A area.now (extent (first_line A area.now) (end_line A area.now)) }
+    ensures few { result.count ≤ 2 ^ 64 }
+    ensures small { result.value ≤ 2 ^ 121 }
+{
+    let mut sum = NOTHING;
+    for line in 0..lines::<A>(area) {
+        sum = plus(sum, line_sum::<A, R>(tiles, rates, layer, key, area, line));
+    }
+    sum
+}
+
+/// The same of a layer, which is nothing where no tile lies on it.
+#[tactic(auto, using(crate::proofs::Worths::layer_bare))]
+fn layer_sum<const A: usize, R: FaceRates>(
+    tiles: &[Tile],
+    rates: &R,
+    layer: u8,
+    key: Key,
+    area: &Rect,
+) -> Sum
+    requires layer { layer < 32 }
+    requires rules { All (λ tile. R.has_rules rates.now tile.layer) tiles.now }
+    requires area { IsNearRect area.now }
+    ensures count { result.count ≡ lines_worth one (plane_of tiles.now) (R.rates_of rates.now) layer key A area.now (extent (first_line A area.now) (end_line A area.now)) }
+    ensures value { result.value ≡ lines_worth amount (plane_of tiles.now) (R.rates_of rates.now) layer key A area.now (extent (first_line A area.now) (end_line A area.now)) }
+    ensures few { result.count ≤ 2 ^ 64 }
+    ensures small { result.value ≤ 2 ^ 121 }
+{
+    if has_tiles(tiles, layer) {
+        lines_sum::<A, R>(tiles, rates, layer, key, area)
+    } else {
+        NOTHING
+    }
+}
+
+/// For a key, how many parts the faces of axis `A` add whose squares lie in the rectangle, and the sum of their amounts.
+/// Axis 0 has the left and right faces, axis 1 those down and up.
+#[tactic(auto, using(rc_geom::proofs::Totals::total_steps))]
+pub fn sum_in<const A: usize, R: FaceRates>(tiles: &[Tile], rates: &R, area: &Rect, key: Key) -> Sum
+    requires rules { All (λ tile. R.has_rules rates.now tile.layer) tiles.now }
+    requires area { IsNearRect area.now }
+    ensures count { result.count ≡ count_in (plane_of tiles.now) (R.rates_of rates.now) A area.now key }
+    ensures value { result.value ≡ value_in numbers (plane_of tiles.now) (R.rates_of rates.now) A area.now key }
+    ensures few { result.count ≤ 2 ^ 69 }
+    ensures small { result.value ≤ 2 ^ 126 }
+{
+    let mut sum = NOTHING;
+    for layer in 0..32 {
+        sum = plus(sum, layer_sum::<A, R>(tiles, rates, layer, key, area));
+    }
+    sum
+}
+
+/// For a key, how many parts the faces of both axes add whose squares lie in the rectangle, and the sum of their amounts.
+pub fn key_sum<R: FaceRates>(tiles: &[Tile], rates: &R, area: &Rect, key: Key) -> Sum
+    requires rules { All (λ tile. R.has_rules rates.now tile.layer) tiles.now }
+    requires area { IsNearRect area.now }
+    ensures count { result.count ≡ key_count (plane_of tiles.now) (R.rates_of rates.now) area.now key }
+    ensures value { result.value ≡ key_value numbers (plane_of tiles.now) (R.rates_of rates.now) area.now key }
+{
+    plus(
+        sum_in::<0, R>(tiles, rates, area, key),
+        sum_in::<1, R>(tiles, rates, area, key),
+    )
 }

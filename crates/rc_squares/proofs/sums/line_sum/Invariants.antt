@@ -9,8 +9,8 @@ abbrev pub invariant-loop-place : goal.invariant-loop-place
 invariant-loop-place g l =
     let rates = g.R.FaceRates.rates_of l.rates in
     record {
-      count : l.sum.count ≡ line_worth one (plane_of l.tiles) rates l.layer l.key g.A l.area (first_line g.A l.area +ℤ pos l.line) l.place;
-      value : l.sum.value ≡ line_worth amount (plane_of l.tiles) rates l.layer l.key g.A l.area (first_line g.A l.area +ℤ pos l.line) l.place;
+      count : l.sum.count ≡ line_worth one (plane_of l.tiles) rates l.layer l.key g.row.A l.area (first_line g.row.A l.area +ℤ pos l.line) l.place;
+      value : l.sum.value ≡ line_worth amount (plane_of l.tiles) rates l.layer l.key g.row.A l.area (first_line g.row.A l.area +ℤ pos l.line) l.place;
       few : l.sum.count ≤ 4 * l.place;
       small : l.sum.value ≤ 2 ^ 59 * l.place;
     }
