@@ -61,6 +61,12 @@ pub square_is : (worth : ℕ → ℕ) (plane : Plane) (rates : Rates ℕ) (layer
 unfolding square_worth
 square_is worth plane rates layer key axis p = refl
 
+pub square_sides : (worth : ℕ → ℕ) (plane : Plane) (rates : Rates ℕ) (layer : ℕ) (key : Key) (axis : ℕ) (p : Pt) (low high : Side) → low ≡ side_of axis false → high ≡ side_of axis true → square_worth worth plane rates layer key axis p ≡ side_worth worth plane rates layer key low p + side_worth worth plane rates layer key high p
+square_sides worth plane rates layer key axis p low high low_is high_is =
+    square_is worth plane rates layer key axis p
+    ∙ (ap (λ (s : Side). side_worth worth plane rates layer key s p + side_worth worth plane rates layer key (side_of axis true) p) (sym low_is)
+    ∙ ap (λ (s : Side). side_worth worth plane rates layer key low p + side_worth worth plane rates layer key s p) (sym high_is))
+
 pub square_bare : (worth : ℕ → ℕ) (plane : Plane) (rates : Rates ℕ) (layer : ℕ) (key : Key) (axis : ℕ) (p : Pt) → plane layer p ≡ None → square_worth worth plane rates layer key axis p ≡ 0
 square_bare worth plane rates layer key axis p bare =
     let low = side_bare worth plane rates layer key (side_of axis false) p bare in

@@ -1,3 +1,4 @@
 pub mod Sides
 pub mod Found
 pub mod Worths
+pub mod Tallies

@@ -5,9 +5,13 @@
 mod area;
 mod faces;
 mod parts;
+mod pass;
 mod rates;
 mod square;
 mod sums;
+mod tally;
+#[cfg(test)]
+mod tests;
 
 pub use faces::{Face, Seen, context, face_at, sight, thickness};
 pub use rates::FaceRates;

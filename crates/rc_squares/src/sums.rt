@@ -21,7 +21,7 @@ pub struct Sum {
     pub value: u128,
 }
 
-const NOTHING: Sum = Sum { count: 0, value: 0 };
+pub const NOTHING: Sum = Sum { count: 0, value: 0 };
 
 /// Two sums together.
 fn plus(a: Sum, b: Sum) -> Sum
@@ -52,17 +52,11 @@ fn part_sum(part: Option<Part>, key: Key) -> Sum
     ensures small { result.value < 2 ^ 57 }
 {
     match part {
-        Some(part) => {
-            if same_key(part.key, key) {
-                Sum {
-                    count: 1,
-                    value: part.amount,
-                }
-            } else {
-                NOTHING
-            }
-        }
-        None => NOTHING,
+        Some(part) if same_key(part.key, key) => Sum {
+            count: 1,
+            value: part.amount,
+        },
+        _ => NOTHING,
     }
 }
 
@@ -143,7 +137,7 @@ fn line_sum<const A: usize, R: FaceRates>(
 }
 
 /// Whether a tile lies on the layer.
-fn has_tiles(tiles: &[Tile], layer: u8) -> bool
+pub fn has_tiles(tiles: &[Tile], layer: u8) -> bool
     ensures { result ≡ list_any (λ tile. tile.layer == layer) tiles.now }
 {
     for tile in tiles {
