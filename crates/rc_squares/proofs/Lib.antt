@@ -4,3 +4,4 @@ pub mod Axes
 pub mod Worths
 pub mod Tallies
 pub mod KeyOrders
+pub mod Listings

@@ -2,3 +2,4 @@ pub mod Sides
 pub mod Found
 pub mod Worths
 pub mod Tallies
+pub mod Entries

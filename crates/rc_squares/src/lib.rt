@@ -3,6 +3,7 @@
 #![tactic(auto)]
 
 mod area;
+mod entries;
 mod faces;
 mod parts;
 mod pass;
@@ -13,6 +14,7 @@ mod tally;
 #[cfg(test)]
 mod tests;
 
+pub use entries::{Entry, sums_in};
 pub use faces::{Face, Seen, context, face_at, sight, thickness};
 pub use rates::FaceRates;
 pub use square::{Metal, metal_at};

@@ -1,4 +1,5 @@
 ghost use Rattle.std.specs.Prelude.{◌≡◌, ◌+◌, ◌<◌, ◌≤◌, ◌^◌, Some, OnOk, IfSome, option_map};
+ghost use Rattle.std.specs.BTreeMap.{IsEmpty};
 ghost use Rattle.rc_squares.specs.Found.{part_value};
 ghost use Rattle.rc_squares.specs.Worths.{part_worth};
 ghost use Rattle.rc_squares.specs.Tallies.{IsTally, Enters};
@@ -7,6 +8,7 @@ use crate::parts::Part;
 use crate::sums::{NOTHING, Sum};
 use rc_fixed::NoMemory;
 use rc_geom::Key;
+use std::alloc::Global;
 use std::collections::BTreeMap;
 
 /// The sums of all keys that have a part so far.
@@ -18,6 +20,17 @@ pub struct Tally {
 }
 
 impl Tally {
+    /// No sums.
+    pub fn new(alloc: Global) -> Tally
+        ensures sums { IsEmpty result.sums }
+        ensures parts { result.parts ≡ 0 }
+    {
+        Tally {
+            sums: BTreeMap::new(alloc),
+            parts: 0,
+        }
+    }
+
     /// Adds a part to the sum of its key.
     fn enter(&mut self, part: Part) -> Result<(), NoMemory>
         requires amount { part.amount < 2 ^ 57 }
