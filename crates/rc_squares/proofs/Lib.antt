@@ -1,0 +1,7 @@
+pub mod Ranges
+pub mod Squares
+pub mod Axes
+pub mod Worths
+pub mod Tallies
+pub mod KeyOrders
+pub mod Listings

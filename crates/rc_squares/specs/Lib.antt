@@ -1,0 +1,5 @@
+pub mod Sides
+pub mod Found
+pub mod Worths
+pub mod Tallies
+pub mod Entries
