@@ -6,7 +6,8 @@ use Rattle.rc_geom.specs.Rects.{touches, IsApart, IsLowestCommon}
 use Rattle.rc_geom.specs.Split.{middle}
 use Rattle.rc_cli.specs.DesignForm.{Wire, is_straight}
 use Rattle.rc_cli.specs.RuleForm.{Rules}
-use Rattle.rc_cli.specs.Layout.{Layout, Short, shapes, first_short, nodes, is_before, lower_end, upper_end, along, nearest_node}
+use Rattle.rc_geom.specs.Plane.{HoldsMetal}
+use Rattle.rc_cli.specs.Layout.{Layout, Short, plane, bounds, shapes, first_short, nodes, is_before, lower_end, upper_end, along, nearest_node}
 use Rattle.rc_cli.specs.Parasitics.{end_of, couplings}
 
 -- shapes i and j of the layout are these
@@ -49,3 +50,7 @@ CouplingsAreMutual = (layout : Layout) (rules : Rules) (i j : ℕ) (a b : Wire) 
     slice_get layout.wires i ≡ Some a → slice_get layout.wires j ≡ Some b →
     Contains (couplings layout rules (i, a)) (record { from = end_of (i, k); to = Some (end_of (j, m)); amount = amount })
     ↔ Contains (couplings layout rules (j, b)) (record { from = end_of (j, m); to = Some (end_of (i, k)); amount = amount })
+
+-- no metal lies outside the bounds, so that what is summed over them is summed over all faces
+abbrev pub BoundsHoldMetal : Type 0
+BoundsHoldMetal = (layout : Layout) → HoldsMetal (bounds layout) (plane layout)

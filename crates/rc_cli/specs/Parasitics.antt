@@ -1,5 +1,5 @@
 -- The square-by-square extraction of a layout: each net's capacitances and resistances, in units of 10^-15.
-use Rattle.std.specs.Prelude.{ℕ, ◌+◌, ◌*◌, ◌==◌, not, List, [], ◌∷◌, ◌++◌, Option, Some, None, length, map, filter, nat_lt, if◌then◌else◌}
+use Rattle.std.specs.Prelude.{ℕ, ◌+◌, ◌*◌, ◌==◌, not, List, [], ◌∷◌, ◌++◌, Option, Some, None, length, map, filter, nat_lt, option_map, if◌then◌else◌}
 use Rattle.std.specs.List.{range_with_len, enumerate_from, flat_map, filter_map, sum_by}
 use Rattle.rc_geom.specs.declared.key.Key.{Key}
 use Rattle.rc_geom.specs.declared.key.Key.TheVariants.{Ground}
@@ -53,11 +53,7 @@ end_of a = record { name = a.0 + 1; node = a.1 }
 -- what a key adds up to between a node and another one or ground; it stands where some face adds a part to the key
 abbrev pub cap_for : Layout → Rules → Metal → Option Metal → Key → Option Cap
 cap_for layout rules a b key =
-    if nat_lt 0 (count_of layout rules key) then Some (record { from = end_of a; to = option_end b; amount = value_of layout rules key }) else None
-  where
-    option_end : Option Metal → Option End
-    option_end None = None
-    option_end (Some metal) = Some (end_of metal)
+    if nat_lt 0 (count_of layout rules key) then Some (record { from = end_of a; to = option_map end_of b; amount = value_of layout rules key }) else None
 
 -- the numbers of a net's nodes
 abbrev pub node_numbers : Wire → List ℕ

@@ -1,7 +1,7 @@
 //! What is proved of the definitions, each law on a function that does nothing.
 
 ghost use Rattle.rc_cli.specs.Forms.{TechIsRead, DesignIsRead, RulesAreRead};
-ghost use Rattle.rc_cli.specs.Laws.{ShortsAreFirst, NodesAreEnds, CouplingsAreMutual};
+ghost use Rattle.rc_cli.specs.Laws.{ShortsAreFirst, NodesAreEnds, CouplingsAreMutual, BoundsHoldMetal};
 
 /// A LEF file is read exactly where its words have the reduced form, as the value that they write.
 pub fn technology_is_read()
@@ -32,4 +32,9 @@ pub fn nodes_are_ends()
 /// A coupling stands in both of its nets, with one amount.
 pub fn couplings_are_mutual()
     ensures { CouplingsAreMutual }
+{}
+
+/// The bounds of a layout hold all of its metal.
+pub fn bounds_hold_metal()
+    ensures { BoundsHoldMetal }
 {}
