@@ -14,3 +14,4 @@ pub mod Answers
 pub mod Work
 pub mod Forms
 pub mod Laws
+pub mod Example

@@ -1,5 +1,6 @@
 //! What is proved of the definitions, each law on a function that does nothing.
 
+ghost use Rattle.rc_cli.specs.Example.{ExampleIsWorked};
 ghost use Rattle.rc_cli.specs.Forms.{TechIsRead, DesignIsRead, RulesAreRead};
 ghost use Rattle.rc_cli.specs.Laws.{ShortsAreFirst, NodesAreEnds, CouplingsAreMutual, BoundsHoldMetal};
 
@@ -37,4 +38,10 @@ pub fn couplings_are_mutual()
 /// The bounds of a layout hold all of its metal.
 pub fn bounds_hold_metal()
     ensures { BoundsHoldMetal }
+{}
+
+/// What a small design comes to by the definitions, from its files to its text: the numbers of a hand computation; the
+/// short, where one of its wires is longer; and the file that isn't there.
+pub fn example_is_worked()
+    ensures { ExampleIsWorked }
 {}

@@ -11,8 +11,8 @@ mod words;
 mod work;
 
 pub use laws::{
-    bounds_hold_metal, couplings_are_mutual, design_is_read, nodes_are_ends, rules_are_read,
-    shorts_are_first, technology_is_read,
+    bounds_hold_metal, couplings_are_mutual, design_is_read, example_is_worked, nodes_are_ends,
+    rules_are_read, shorts_are_first, technology_is_read,
 };
 pub use line::{tell_no_memory, tell_usage};
 pub use top::run;
