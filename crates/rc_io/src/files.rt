@@ -25,7 +25,8 @@ pub trait Files {
     /// How often files of that name have failed. It never falls.
     ghost faults: { Self → List ℕ → ℕ };
 
-    /// Begins a file at its front, also one that was read before. A name that isn't there fails.
+    /// Begins a file at its front, also one that was read before. A name that isn't there fails. After a failure
+    /// nothing is said of which file is begun: begin one before the next read.
     ///
     /// # Errors
     ///
