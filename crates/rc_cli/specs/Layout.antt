@@ -6,7 +6,7 @@ use Rattle.std.specs.Int.{int_min, int_max}
 use Rattle.std.specs.List.{enumerate_from, flat_map, filter_map}
 use Rattle.rc_geom.specs.declared.rect.Pt.{Pt}
 use Rattle.rc_geom.specs.declared.rect.Rect.{Rect}
-use Rattle.rc_geom.specs.Rects.{covers, common, has_points}
+use Rattle.rc_geom.specs.Rects.{covers, common_part, has_points}
 use Rattle.rc_geom.specs.Plane.{Plane}
 use Rattle.rc_geom.specs.Split.{reach_to}
 use Rattle.rc_cli.specs.TechForm.{Tech}
@@ -47,7 +47,7 @@ pub record Short : Type 0 where
 
 abbrev pub short_of : (ℕ × Rect) → (ℕ × Rect) → Option Short
 short_of earlier later =
-    let both = common earlier.1 later.1 in
+    let both = common_part earlier.1 later.1 in
     if has_points both then Some (record { first = earlier.0; second = later.0; corner = record { x = both.x0; y = both.y0 } }) else None
 
 -- all shorts, by the later shape and then by the earlier one
