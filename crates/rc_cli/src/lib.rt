@@ -2,8 +2,10 @@
 #![tactic(auto)]
 
 mod command;
+mod design;
 mod line;
 mod number;
+mod rules;
 mod tech;
 mod top;
 mod words;
