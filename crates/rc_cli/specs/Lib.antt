@@ -5,6 +5,7 @@ pub mod Phrases
 pub mod TechForm
 pub mod DesignForm
 pub mod RuleForm
+pub mod Ranges
 pub mod Layout
 pub mod Rate
 pub mod Parasitics

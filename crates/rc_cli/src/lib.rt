@@ -2,9 +2,11 @@
 #![tactic(auto)]
 
 mod command;
+mod design;
 mod laws;
 mod line;
 mod number;
+mod rules;
 mod tech;
 mod top;
 mod words;

@@ -1,8 +1,10 @@
-ghost use Rattle.std.specs.Prelude.{◌≡◌, ◌<◌, ◌↔◌, [], ◌∷◌, ℕ, List, Some, None, length, not, position, IsTrue, MatchOption};
-ghost use Rattle.std.specs.List.{list_all, position_or_len};
+ghost use Rattle.std.specs.Prelude.{◌≡◌, ◌<◌, ◌↔◌, [], ◌∷◌, ℕ, List, Some, None, length, not, position, IsTrue, IfSome, MatchOption};
+ghost use Rattle.std.specs.List.{list_all, position_or_len, starts_with};
+ghost use Rattle.std.specs.Str.{bytes_eq};
 ghost use Rattle.rc_cli.specs.Cut.{is_blank as is_blank_byte, is_word_byte as is_word_byte_of, is_plain as is_plain_text, words_of, IsFirstWord};
-ghost use Rattle.rc_cli.specs.Phrases.{after, first_by, read_name, at_end as at_end_of};
+ghost use Rattle.rc_cli.specs.Phrases.{after, first_by, read_name, at_end as at_end_of, is_semicolon as is_semicolon_word};
 ghost use Rattle.rc_cli.specs.Numbers.{length_in_units as length_in_units_of, coordinate as coordinate_of};
+ghost use Rattle.rc_cli.specs.Ranges.{IsCoordinate};
 
 use crate::number::{coordinate, is_name, length_in_units};
 use std::marker::Model;
@@ -40,6 +42,13 @@ pub fn is_plain(text: &[u8]) -> bool
 {
     text.iter()
         .all(|byte| is_blank(*byte) || is_word_byte(*byte))
+}
+
+/// Whether a word is the one that ends a list.
+pub fn is_semicolon(word: &[u8]) -> bool
+    ensures { result ≡ is_semicolon_word word.now }
+{
+    word == b";".as_slice()
 }
 
 /// Where the first byte of a word stands.
@@ -99,6 +108,36 @@ impl<'a> Words<'a> {
         Some(())
     }
 
+    /// Takes this word, where it comes next.
+    #[tactic(auto, using(crate::proofs::Fronts::after_steps))]
+    pub fn accept_word(&mut self, wanted: &[u8]) -> Option<()>
+        ensures { MatchOption result (after (wanted.now ∷ []) self.old ≡ None) (λ _. after (wanted.now ∷ []) self.old ≡ Some self.new) }
+    {
+        if self.next_word()? != wanted {
+            return None;
+        }
+        Some(())
+    }
+
+    /// Takes this word and then these, where they come next.
+    #[tactic(auto, using(crate::proofs::Fronts::after_steps))]
+    pub fn accept_from(&mut self, first: &[u8], front: &str) -> Option<()>
+        ensures { MatchOption result (after (first.now ∷ words_of front.now) self.old ≡ None)
+            (λ _. after (first.now ∷ words_of front.now) self.old ≡ Some self.new) }
+    {
+        if self.next_word()? != first {
+            return None;
+        }
+        self.accept(front)
+    }
+
+    /// Whether these words come next.
+    pub fn begins_with(&self, front: &str) -> bool
+        ensures { result ≡ starts_with bytes_eq self.now (words_of front.now) }
+    {
+        Words::new(self.rest).accept(front).is_some()
+    }
+
     /// Takes the next word, where it is a name.
     pub fn next_name(&mut self) -> Option<&'a [u8]>
         ensures { MatchOption result (first_by read_name self.old ≡ None) (λ name. first_by read_name self.old ≡ Some (name.now, self.new)) }
@@ -116,7 +155,8 @@ impl<'a> Words<'a> {
 
     /// Takes the next word, where it is a coordinate, in units of 1/1000 micron.
     pub fn next_coordinate(&mut self) -> Option<i32>
-        ensures { MatchOption result (first_by coordinate_of self.old ≡ None) (λ z. first_by coordinate_of self.old ≡ Some (z, self.new)) }
+        ensures value { MatchOption result (first_by coordinate_of self.old ≡ None) (λ z. first_by coordinate_of self.old ≡ Some (z, self.new)) }
+        ensures range { IfSome result IsCoordinate }
     {
         coordinate(self.next_word()?)
     }
