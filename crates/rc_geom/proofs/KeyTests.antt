@@ -36,10 +36,10 @@ itself (Pair net node other onode) =
 pub keys_are_told : KeysAreTold
 keys_are_told a b = (one_key a b, λ e. ap (same_key a) (sym e) ∙ itself a)
 
-pair_low : (a b : Metal) → a.0 < b.0 → pair_key a b ≡ Pair a.0 a.1 b.0 b.1
+pub pair_low : (a b : Metal) → a.0 < b.0 → pair_key a b ≡ Pair a.0 a.1 b.0 b.1
 pair_low a b less = ap (λ (c : Bool). cond c (Pair a.0 a.1 b.0 b.1) (Pair b.0 b.1 a.0 a.1)) (lt-ltb a.0 b.0 less)
 
-pair_high : (a b : Metal) → b.0 < a.0 → pair_key a b ≡ Pair b.0 b.1 a.0 a.1
+pub pair_high : (a b : Metal) → b.0 < a.0 → pair_key a b ≡ Pair b.0 b.1 a.0 a.1
 pair_high a b more = ap (λ (c : Bool). cond c (Pair a.0 a.1 b.0 b.1) (Pair b.0 b.1 a.0 a.1)) (le-ltb a.0 b.0 (omega arith))
 
 pair_both : (a b : Metal) → a.0 ≢ b.0 → (pair_key a b ≡ pair_key b a) × IsInOrder (pair_key a b)

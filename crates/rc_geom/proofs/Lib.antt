@@ -6,3 +6,9 @@ pub mod Rays
 pub mod Totals
 pub mod Areas
 pub mod KeyTests
+pub mod Nearest
+pub mod Cuts
+pub mod Halos
+pub mod Words
+pub mod Entries
+pub mod FarNets

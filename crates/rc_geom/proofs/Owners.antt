@@ -11,42 +11,42 @@ use Rattle.std.proofs.lemmas.Bool.Decides.{nat_tests}
 use Rattle.rc_geom.specs.declared.rect.Pt.{Pt}
 use Rattle.rc_geom.specs.declared.tile.Tile.{Tile}
 use Rattle.rc_geom.specs.Rects.{covers}
-use Rattle.rc_geom.specs.Plane.{claims, lesser, claimed, owner, Overlaps, RanksDiffer, NetsApart, NeverOwns}
+use Rattle.rc_geom.specs.Plane.{claims, least_of, next_owner, owner, Overlaps, RanksDiffer, NetsApart, NeverOwns}
 use Rattle.rc_geom.specs.Laws.{IsOwner, OwnersAreLeast, OrderIsFree, OwnersSuffice}
 
 -- of two owners the one of less rank, the first where they tie
-abbrev better : Option Tile → Option Tile → Option Tile
+abbrev pub better : Option Tile → Option Tile → Option Tile
 better best None = best
-better best (Some t) = Some (lesser best t)
+better best (Some t) = Some (least_of best t)
 
 -- a tile as the only owner
-abbrev claim : ℕ → Pt → Tile → Option Tile
+abbrev pub claim : ℕ → Pt → Tile → Option Tile
 claim layer p t = cond (claims layer p t) (Some t) None
 
-better_none : (o : Option Tile) → better None o ≡ o
+pub better_none : (o : Option Tile) → better None o ≡ o
 better_none None = refl
 better_none (Some t) = refl
 
-lesser_assoc : (a b c : Tile) → lesser (Some (lesser (Some a) b)) c ≡ lesser (Some a) (lesser (Some b) c)
+lesser_assoc : (a b c : Tile) → least_of (Some (least_of (Some a) b)) c ≡ least_of (Some a) (least_of (Some b) c)
 lesser_assoc a b c = grind (arith, nat_tests)
 
-better_assoc : (best : Option Tile) (t : Tile) (o : Option Tile) → better (Some (lesser best t)) o ≡ better best (better (Some t) o)
+better_assoc : (best : Option Tile) (t : Tile) (o : Option Tile) → better (Some (least_of best t)) o ≡ better best (better (Some t) o)
 better_assoc best t None = refl
 better_assoc None t (Some u) = refl
 better_assoc (Some b) t (Some u) = ap Some (lesser_assoc b t u)
 
-step_better : (layer : ℕ) (p : Pt) (best : Option Tile) (t : Tile) (o : Option Tile) → better (claimed layer p best t) o ≡ better best (better (claim layer p t) o)
+step_better : (layer : ℕ) (p : Pt) (best : Option Tile) (t : Tile) (o : Option Tile) → better (next_owner layer p best t) o ≡ better best (better (claim layer p t) o)
 step_better layer p best t o =
-    elim (claims layer p t) as (λ b. better (cond b (Some (lesser best t)) best) o ≡ better best (better (cond b (Some t) None) o)) [
+    elim (claims layer p t) as (λ b. better (cond b (Some (least_of best t)) best) o ≡ better best (better (cond b (Some t) None) o)) [
       | true ↦ better_assoc best t o
       | false ↦ ap (better best) (sym (better_none o))
     ]
 
 -- the owner among some tiles and more
-joined : (layer : ℕ) (p : Pt) (best : Option Tile) (ts : List Tile) → fold (claimed layer p) best ts ≡ better best (owner ts layer p)
+joined : (layer : ℕ) (p : Pt) (best : Option Tile) (ts : List Tile) → fold (next_owner layer p) best ts ≡ better best (owner ts layer p)
 joined layer p best [] = refl
 joined layer p best (t ∷ ts) =
-    joined layer p (claimed layer p best t) ts
+    joined layer p (next_owner layer p best t) ts
     ∙ (step_better layer p best t (owner ts layer p)
     ∙ ap (better best) (sym (joined layer p (claim layer p t) ts)))
 
@@ -54,7 +54,7 @@ pub owner-cons : (layer : ℕ) (p : Pt) (t : Tile) (ts : List Tile) → owner (t
 owner-cons layer p t ts = joined layer p (claim layer p t) ts
 
 pub owner-append : (layer : ℕ) (p : Pt) (xs ys : List Tile) → owner (xs ++ ys) layer p ≡ better (owner xs layer p) (owner ys layer p)
-owner-append layer p xs ys = fold-append (claimed layer p) None xs ys ∙ joined layer p (owner xs layer p) ys
+owner-append layer p xs ys = fold-append (next_owner layer p) None xs ys ∙ joined layer p (owner xs layer p) ys
 
 -- what an owner is to its tiles
 abbrev Tells : List Tile → ℕ → Pt → Option Tile → Type 0
@@ -83,7 +83,7 @@ new_owner layer p t ts does least = record {
   least = All-cons (λ (v : Tile). claims layer p v ≡ true → t.rank ≤ v.rank) t ts (λ _. omega arith) least;
 }
 
-choose : (layer : ℕ) (p : Pt) (t u : Tile) (ts : List Tile) → claims layer p t ≡ true → IsOwner ts layer p u → IsOwner (t ∷ ts) layer p (lesser (Some t) u)
+choose : (layer : ℕ) (p : Pt) (t u : Tile) (ts : List Tile) → claims layer p t ≡ true → IsOwner ts layer p u → IsOwner (t ∷ ts) layer p (least_of (Some t) u)
 choose layer p t u ts does h =
     (elim (nat_lt u.rank t.rank) as (λ b. nat_lt u.rank t.rank ≡ b → IsOwner (t ∷ ts) layer p (cond b u t)) [
       | true ↦ λ less. let r : u.rank < t.rank = ltb-true u.rank t.rank less in keep_owner layer p t u ts (λ _. omega arith) h

@@ -1,17 +1,17 @@
 -- Lines, rays and what they meet.
 use mathlib.Core.Path.{Path}
-use Rattle.std.proofs.Common.{◌≡◌, ◌≤◌, ◌<◌, ◌+◌, ◌-◌, ⊎_elim, ℕ, ℤ, pos, ◌+ℤ◌, ◌-ℤ◌, neg_ℤ, Bool, true, false, cond, not, map, length, get_or, Option, Some, None, refl, ap, sym, ◌∙◌, subst, arith}
+use Rattle.std.proofs.Common.{◌≡◌, ◌≤◌, ◌<◌, ◌+◌, ◌-◌, ⊎_elim, ℕ, zero, suc, ℤ, pos, ◌+ℤ◌, ◌-ℤ◌, neg_ℤ, Bool, true, false, cond, not, ◌∷◌, map, length, get_or, Option, Some, None, refl, ap, sym, ◌∙◌, subst, arith}
 use Rattle.std.specs.Prelude.{is_some, IfSome, IsSomeAnd, nat_le, ◌&&◌, option_map}
 use Rattle.std.specs.Option.{option_and_then}
-use Rattle.std.specs.List.{range_with_len}
+use Rattle.std.specs.List.{prefix_len, position_or_len, range_with_len}
 use Rattle.std.proofs.lemmas.List.FromFn.{length-map-range_with_len, get_or-map-range_with_len}
 use Rattle.std.proofs.lemmas.List.Sums.{prefix_len_is, prefix_len-le-length, prefix_len_passes, prefix_len_stops, position_or_len_is, fails_before_first, passes_at_first}
-use Rattle.std.proofs.lemmas.Bool.{le-leb, leb-true, true≢false, cases_lt, and_parts, eq-eqb}
+use Rattle.std.proofs.lemmas.Bool.{le-leb, lt-leb, leb-true, true≢false, cases_lt, and_parts, and_right, eq-eqb}
 use Rattle.std.proofs.lemmas.Int.{ints}
 use Rattle.rc_geom.specs.Plane.{Metal}
 use Rattle.rc_geom.specs.Line.{Line, Ray, ray, mirror, at_distance}
 use Rattle.rc_geom.specs.Faces.{Face, Seen, face_at, face_between, end_of, is_net, thickness, gap, sight}
-use Rattle.rc_geom.specs.Laws.{IsMirrored, IsThickness, ThicknessIsARun, FacesAreThick, IsSeen, SightIsFirst, SightIsMutual}
+use Rattle.rc_geom.specs.Laws.{IsMirrored, IsThickness, ThicknessIsARun, FacesAreThick, IsSeen, SightIsFirst, SightIsMutual, FacesAreLocal}
 
 -- ---- the mirror
 
@@ -145,7 +145,7 @@ at_start : (up : Bool) (z : ℤ) → at_distance up z 0 ≡ z
 at_start true z = omega (arith, ints)
 at_start false z = omega (arith, ints)
 
-ray-start : (line : Line) (up : Bool) (z : ℤ) → ray up line z 0 ≡ line z
+pub ray-start : (line : Line) (up : Bool) (z : ℤ) → ray up line z 0 ≡ line z
 ray-start line up z = ap line (at_start up z)
 
 end_split : (c : Bool) (own : Metal) (first : Metal) → cond c None (Some first) ≡ Some own → (first ≡ own) × (c ≡ false)
@@ -247,3 +247,44 @@ pub no_face : (cap reach : ℕ) (line : Line) (up : Bool) (z : ℤ) → line z �
 no_face cap reach line up z bare =
     ap (λ (o : Option Metal). option_map (face_with cap reach (ray up line z) (ray (not up) line z)) (option_and_then (λ (own : Metal). cond (is_net own.0 (ray up line z 1)) None (Some own)) o))
     (ray-start line up z ∙ bare)
+
+-- ---- what a face rests on
+
+-- functions that agree below n list the same values
+listed : {X : Type 0} (f g : ℕ → X) (a n : ℕ) → ((k : ℕ) → a ≤ k → k < a + n → f k ≡ g k) → map f (range_with_len a n) ≡ map g (range_with_len a n)
+listed f g a zero same = refl
+listed f g a (suc n) same =
+    ap (λ x. x ∷ map f (range_with_len (a + 1) n)) (same a (omega arith) (omega arith))
+    ∙ ap (λ xs. g a ∷ xs) (listed f g (a + 1) n (λ k low high. same k (omega arith) (omega arith)))
+
+seen_same : (reach d : ℕ) (ahead other : Ray) → ((k : ℕ) → k ≤ reach + 1 → ahead k ≡ other k) → seen_at reach d (ahead (d + 1)) ≡ seen_at reach d (other (d + 1))
+seen_same reach d ahead other same = ⊎_elim
+    (λ (far : reach < d).
+    let stop : (nat_le 1 d && nat_le d reach) ≡ false = and_right (nat_le 1 d) (nat_le d reach) (lt-leb d reach far) in
+    ap (λ (c : Bool). cond c (option_map {U = Seen} (λ metal. (d, metal)) (ahead (d + 1))) None) stop ∙ sym (ap (λ (c : Bool). cond c (option_map {U = Seen} (λ metal. (d, metal)) (other (d + 1))) None) stop))
+    (λ (near : d ≤ reach). ap (seen_at reach d) (same (d + 1) (omega arith)))
+    (cases_lt reach d)
+
+sight_same : (reach : ℕ) (ahead other : Ray) → ((k : ℕ) → k ≤ reach + 1 → ahead k ≡ other k) → sight reach ahead ≡ sight reach other
+sight_same reach ahead other same =
+    let gaps : gap reach ahead ≡ gap reach other = ap (position_or_len is_some) (listed (λ k. ahead (k + 1)) (λ k. other (k + 1)) 0 (reach + 1) (λ k _ less. same (k + 1) (omega arith))) in
+    seen_same reach (gap reach ahead) ahead other same ∙ ap (λ (d : ℕ). seen_at reach d (other (d + 1))) gaps
+
+thickness_same : (net cap : ℕ) (back other : Ray) → ((k : ℕ) → k < cap → back k ≡ other k) → thickness net cap back ≡ thickness net cap other
+thickness_same net cap back other same = ap (prefix_len (is_net net)) (listed back other 0 cap (λ k _ less. same k (omega arith)))
+
+end_same : (ahead other : Ray) → ahead 0 ≡ other 0 → ahead 1 ≡ other 1 → end_of ahead ≡ end_of other
+end_same ahead other first second =
+    ap (λ (o : Option Metal). option_and_then (λ (own : Metal). cond (is_net own.0 (ahead 1)) None (Some own)) o) first
+    ∙ ap (λ (o : Option Metal). option_and_then (λ (own : Metal). cond (is_net own.0 o) None (Some own)) (other 0)) second
+
+faces_same : (cap reach : ℕ) (ahead ahead' back back' : Ray) → sight reach ahead ≡ sight reach ahead' → ((net : ℕ) → thickness net cap back ≡ thickness net cap back') → (o : Option Metal) → option_map (face_with cap reach ahead back) o ≡ option_map (face_with cap reach ahead' back') o
+faces_same cap reach ahead ahead' back back' sights thick None = refl
+faces_same cap reach ahead ahead' back back' sights thick (Some own) =
+    ap (λ (n : ℕ). Some (record { own = own; thick = n; sight = sight reach ahead })) (thick own.0)
+    ∙ ap (λ (s : Option Seen). Some (record { own = own; thick = thickness own.0 cap back'; sight = s })) sights
+
+pub faces_are_local : FacesAreLocal
+faces_are_local cap reach line other up z ahead back =
+    faces_same cap reach (ray up line z) (ray up other z) (ray (not up) line z) (ray (not up) other z) (sight_same reach (ray up line z) (ray up other z) ahead) (λ net. thickness_same net cap (ray (not up) line z) (ray (not up) other z) back) (end_of (ray up line z))
+    ∙ ap (option_map (face_with cap reach (ray up other z) (ray (not up) other z))) (end_same (ray up line z) (ray up other z) (ahead 0 (omega arith)) (ahead 1 (omega arith)))

@@ -1,19 +1,20 @@
 -- What holds of the definitions themselves.
-use Rattle.std.specs.Prelude.{◌≡◌, ◌≢◌, ◌↔◌, ◌<◌, ◌≤◌, ◌+◌, ℕ, ℤ, neg_ℤ, Bool, true, false, not, List, ◌∷◌, ◌++◌, Some, None, IsTrue, IfSome, IsSomeAnd, MatchOption, All, Contains}
+use Rattle.std.specs.Prelude.{Option, ◌⊎◌, ◌≡◌, ◌≢◌, ◌↔◌, ◌<◌, ◌≤◌, ◌+◌, ℕ, ℤ, neg_ℤ, Bool, true, false, not, List, ◌∷◌, ◌++◌, Some, None, IsTrue, is_some, IfSome, IsSomeAnd, MatchOption, All, Contains, filter, ◌≤ℤ◌, ◌&&◌, ◌||◌, if◌then◌else◌}
 use Rattle.std.specs.List.Sorted.{IsPermutation}
 use Rattle.rc_geom.specs.declared.rect.Pt.{Pt}
 use Rattle.rc_geom.specs.declared.rect.Rect.{Rect}
 use Rattle.rc_geom.specs.declared.tile.Tile.{Tile}
 use Rattle.rc_geom.specs.declared.key.Key.{Key}
 use Rattle.rc_geom.specs.declared.key.Key.TheVariants.{Ground, Pair}
-use Rattle.rc_geom.specs.Rects.{covers, IsInside}
-use Rattle.rc_geom.specs.Plane.{Metal, Plane, claims, owner, plane_of, RanksDiffer, NetsApart, NeverOwns, HoldsTiles, HoldsMetal}
-use Rattle.rc_geom.specs.Line.{Line, Ray, ray, mirror, at_distance, square_of}
+use Rattle.rc_geom.specs.Rects.{covers, grow, SharesSquare, IsInside}
+use Rattle.rc_geom.specs.Plane.{Metal, is_grounded, Plane, claims, owner, plane_of, RanksDiffer, NetsApart, NeverOwns, HoldsTiles, HoldsMetal}
+use Rattle.rc_geom.specs.Line.{Line, Ray, ray, mirror, at_distance, square_of, line_of}
 use Rattle.rc_geom.specs.Faces.{Face, face_at, is_net, thickness, sight}
+use Rattle.rc_geom.specs.Context.{layer_count, under, over}
 use Rattle.rc_geom.specs.Rates.{Rates}
-use Rattle.rc_geom.specs.Parts.{pair_key, shared_key, same_key}
-use Rattle.rc_geom.specs.Sums.{Adding, IsNeutral, square_sum}
-use Rattle.rc_geom.specs.Extraction.{sum_in, key_value, key_count}
+use Rattle.rc_geom.specs.Parts.{pair_key, shared_key, same_key, parts, worth_at, is_metal, sees, sees_grounded}
+use Rattle.rc_geom.specs.Sums.{Adding, IsNeutral, IsAdditive, total, total_between, square_sum}
+use Rattle.rc_geom.specs.Extraction.{face_of, parts_of, sum_in, key_value, key_count}
 
 -- the tile is one of them, covers the square, and none that covers it has a lesser rank
 pub record IsOwner (tiles : List Tile) (layer : ℕ) (p : Pt) (t : Tile) : Type 0 where
@@ -23,20 +24,24 @@ pub record IsOwner (tiles : List Tile) (layer : ℕ) (p : Pt) (t : Tile) : Type 
 
 -- a square has an owner, or no tile covers it
 abbrev pub OwnersAreLeast : Type 0
-OwnersAreLeast = (tiles : List Tile) (layer : ℕ) (p : Pt) → MatchOption (owner tiles layer p) (All (λ u. claims layer p u ≡ false) tiles) (IsOwner tiles layer p)
+OwnersAreLeast = (tiles : List Tile) (layer : ℕ) (p : Pt) →
+    MatchOption (owner tiles layer p) (All (λ u. claims layer p u ≡ false) tiles) (IsOwner tiles layer p)
 
 -- the order of the tiles doesn't matter
 abbrev pub OrderIsFree : Type 0
-OrderIsFree = (tiles others : List Tile) → RanksDiffer tiles → NetsApart tiles → IsPermutation tiles others → plane_of others ≡ plane_of tiles
+OrderIsFree = (tiles others : List Tile) →
+    RanksDiffer tiles → NetsApart tiles → IsPermutation tiles others → plane_of others ≡ plane_of tiles
 
 -- a tile that owns no square can be left out
 abbrev pub OwnersSuffice : Type 0
-OwnersSuffice = (before after : List Tile) (t : Tile) → NeverOwns t (before ++ after) → plane_of (before ++ t ∷ after) ≡ plane_of (before ++ after)
+OwnersSuffice = (before after : List Tile) (t : Tile) →
+    NeverOwns t (before ++ after) → plane_of (before ++ t ∷ after) ≡ plane_of (before ++ after)
 
 -- read the other way round, a line has the same faces, each in the other direction
 pub record IsMirrored (line : Line) : Type 0 where
   pub rays : (up : Bool) (z : ℤ) → ray up (mirror line) z ≡ ray (not up) line (neg_ℤ z)
-  pub faces : (cap reach : ℕ) (up : Bool) (z : ℤ) → face_at cap reach (mirror line) up z ≡ face_at cap reach line (not up) (neg_ℤ z)
+  pub faces : (cap reach : ℕ) (up : Bool) (z : ℤ) →
+      face_at cap reach (mirror line) up z ≡ face_at cap reach line (not up) (neg_ℤ z)
 
 -- that many squares in a row are the net's, and not more, unless they are cap
 pub record IsThickness (net cap : ℕ) (back : Ray) (n : ℕ) : Type 0 where
@@ -49,7 +54,8 @@ ThicknessIsARun = (net cap : ℕ) (back : Ray) (n : ℕ) → (thickness net cap 
 
 -- the thickness of a face is at least 1 and at most cap
 abbrev pub FacesAreThick : Type 0
-FacesAreThick = (cap reach : ℕ) (line : Line) (up : Bool) (z : ℤ) → 1 ≤ cap → IfSome (face_at cap reach line up z) (λ face. (1 ≤ face.thick) × (face.thick ≤ cap))
+FacesAreThick = (cap reach : ℕ) (line : Line) (up : Bool) (z : ℤ) → 1 ≤ cap →
+    IfSome (face_at cap reach line up z) (λ face. (1 ≤ face.thick) × (face.thick ≤ cap))
 
 -- the squares at distances 1 to d are empty, the next one has that metal, and d is from 1 to reach
 pub record IsSeen (reach : ℕ) (ahead : Ray) (d : ℕ) (metal : Metal) : Type 0 where
@@ -59,36 +65,148 @@ pub record IsSeen (reach : ℕ) (ahead : Ray) (d : ℕ) (metal : Metal) : Type 0
   pub behind : ahead (d + 1) ≡ Some metal
 
 abbrev pub SightIsFirst : Type 0
-SightIsFirst = (reach : ℕ) (ahead : Ray) (d : ℕ) (metal : Metal) → (sight reach ahead ≡ Some (d, metal)) ↔ IsSeen reach ahead d metal
+SightIsFirst = (reach : ℕ) (ahead : Ray) (d : ℕ) (metal : Metal) →
+    (sight reach ahead ≡ Some (d, metal)) ↔ IsSeen reach ahead d metal
 
 -- where a face sees metal behind a gap, the face of that metal that looks back sees the first one's behind the same gap
 abbrev pub SightIsMutual : Type 0
 SightIsMutual = (cap reach : ℕ) (line : Line) (up : Bool) (z : ℤ) (face : Face) (d : ℕ) (metal : Metal) →
     face_at cap reach line up z ≡ Some face → face.sight ≡ Some (d, metal) →
-    IsSomeAnd (face_at cap reach line (not up) (at_distance up z (d + 1))) (λ other. (other.own ≡ metal) × (other.sight ≡ Some (d, face.own)))
+    IsSomeAnd (face_at cap reach line (not up) (at_distance up z (d + 1)))
+    (λ other. (other.own ≡ metal) × (other.sight ≡ Some (d, face.own)))
+
+-- a lower layer has metal over the square, and none between does
+pub record IsUnder (plane : Plane) (layer : ℕ) (p : Pt) (l : ℕ) : Type 0 where
+  pub below : l < layer
+  pub metal : is_some (plane l p) ≡ true
+  pub nearest : (k : ℕ) → l < k → k < layer → plane k p ≡ None
+
+abbrev pub UnderIsHighest : Type 0
+UnderIsHighest = (plane : Plane) (layer : ℕ) (p : Pt) (l : ℕ) →
+    (under plane layer p ≡ Some l) ↔ IsUnder plane layer p l
+
+-- a higher layer has metal over the square, and none between does
+pub record IsOver (plane : Plane) (layer : ℕ) (p : Pt) (l : ℕ) : Type 0 where
+  pub above : layer < l
+  pub within : l < layer_count
+  pub metal : is_some (plane l p) ≡ true
+  pub nearest : (k : ℕ) → layer < k → k < l → plane k p ≡ None
+
+abbrev pub OverIsLowest : Type 0
+OverIsLowest = (plane : Plane) (layer : ℕ) (p : Pt) (l : ℕ) →
+    (over plane layer p ≡ Some l) ↔ IsOver plane layer p l
+
+-- a face rests on no squares but those at distances to reach + 1 before it, and below cap behind it
+abbrev pub FacesAreLocal : Type 0
+FacesAreLocal = (cap reach : ℕ) (line other : Line) (up : Bool) (z : ℤ) →
+    ((k : ℕ) → k ≤ reach + 1 → ray up line z k ≡ ray up other z k) →
+    ((k : ℕ) → k < cap → ray (not up) line z k ≡ ray (not up) other z k) →
+    face_at cap reach line up z ≡ face_at cap reach other up z
+
+-- what each square adds in each direction is sound
+abbrev pub AllSound : {V : Type 0} → (V → Bool) → (ℕ → ℤ → ℤ → Bool → V) → Type 0
+AllSound sound f = (layer : ℕ) (at along : ℤ) (up : Bool) → sound (f layer at along up) ≡ true
 
 -- where squares outside the inner rectangle add nothing, the outer one has the same sum
 abbrev pub InnerSumsSuffice : Type 0 → Type 0
-InnerSumsSuffice V = (adding : Adding V) (axis : ℕ) (inner outer : Rect) (f : ℕ → ℤ → ℤ → Bool → V) →
-    IsNeutral adding → IsInside inner outer →
-    ((layer : ℕ) (at along : ℤ) (up : Bool) → covers outer (square_of axis at along) ≡ true → covers inner (square_of axis at along) ≡ false → f layer at along up ≡ adding.none) →
+InnerSumsSuffice V =
+    (adding : Adding V) (sound : V → Bool) (axis : ℕ) (inner outer : Rect) (f : ℕ → ℤ → ℤ → Bool → V) →
+    IsNeutral adding sound → AllSound sound f → IsInside inner outer →
+    ((layer : ℕ) (at along : ℤ) (up : Bool) →
+    covers outer (square_of axis at along) ≡ true → covers inner (square_of axis at along) ≡ false →
+    f layer at along up ≡ adding.none) →
     square_sum adding axis outer f ≡ square_sum adding axis inner f
 
 -- where all tiles lie in a rectangle, all metal does
 abbrev pub TilesHoldMetal : Type 0
 TilesHoldMetal = (r : Rect) (tiles : List Tile) → HoldsTiles r tiles → HoldsMetal r (plane_of tiles)
 
+-- each amount that a face of the plane adds has a sound worth
+abbrev pub AmountsAreSound : {V W : Type 0} → (W → Bool) → (V → W) → Plane → Rates V → Type 0
+AmountsAreSound sound worth plane rates = (axis layer : ℕ) (at along : ℤ) (up : Bool) →
+    All (λ part. sound (worth part.amount) ≡ true) (parts_of plane rates axis layer at along up)
+
+-- the rates that a face of the plane can have are sound: those of a layer that has metal, with a thickness from 1 to its
+-- cap, and with no gap or one from 1 to its reach
+abbrev pub RatesAreSound : {V W : Type 0} → (W → Bool) → (V → W) → Plane → Rates V → Type 0
+RatesAreSound sound worth plane rates =
+    (layer : ℕ) (p : Pt) (below above : Option ℕ) (thick : ℕ) (gap : Option ℕ) →
+    is_some (plane layer p) ≡ true → 1 ≤ thick → thick ≤ rates.cap layer →
+    IfSome gap (λ d. (1 ≤ d) × (d ≤ rates.reach layer)) →
+    (sound (worth (rates.rate layer below above thick gap).0) ≡ true) × (sound (worth (rates.rate layer below above thick gap).1) ≡ true)
+
+-- where these are sound, so is each amount that a face adds
+abbrev pub SoundRatesSuffice : Type 0 → Type 0 → Type 0
+SoundRatesSuffice V W = (sound : W → Bool) (worth : V → W) (plane : Plane) (rates : Rates V) →
+    ((layer : ℕ) → 1 ≤ rates.cap layer) → RatesAreSound sound worth plane rates → AmountsAreSound sound worth plane rates
+
 -- two rectangles that hold all metal have the same sums
 abbrev pub MetalBounds : Type 0 → Type 0 → Type 0
-MetalBounds V W = (adding : Adding W) (worth : V → W) (plane : Plane) (rates : Rates V) (axis : ℕ) (r s : Rect) (key : Key) →
-    IsNeutral adding → HoldsMetal r plane → HoldsMetal s plane →
+MetalBounds V W =
+    (adding : Adding W) (sound : W → Bool) (worth : V → W) (plane : Plane) (rates : Rates V) →
+    (axis : ℕ) (r s : Rect) (key : Key) →
+    IsNeutral adding sound → AmountsAreSound sound worth plane rates → HoldsMetal r plane → HoldsMetal s plane →
     sum_in adding worth plane rates axis r key ≡ sum_in adding worth plane rates axis s key
 
 -- so the values and the counts of both axes are the same
 abbrev pub ValuesAreBounded : Type 0 → Type 0
-ValuesAreBounded V = (adding : Adding V) (plane : Plane) (rates : Rates V) (r s : Rect) (key : Key) →
-    IsNeutral adding → HoldsMetal r plane → HoldsMetal s plane →
-    (key_value adding plane rates r key ≡ key_value adding plane rates s key) × (key_count plane rates r key ≡ key_count plane rates s key)
+ValuesAreBounded V =
+    (adding : Adding V) (sound : V → Bool) (plane : Plane) (rates : Rates V) (r s : Rect) (key : Key) →
+    IsNeutral adding sound → AmountsAreSound sound (λ v. v) plane rates → HoldsMetal r plane → HoldsMetal s plane →
+    (key_value adding plane rates r key ≡ key_value adding plane rates s key)
+    × (key_count plane rates r key ≡ key_count plane rates s key)
+
+-- a sum over a rectangle is that of its two parts, cut at a column or at a row
+pub record IsCutAt {V : Type 0} (adding : Adding V) (axis : ℕ) (r : Rect) (f : ℕ → ℤ → ℤ → Bool → V) (z : ℤ) : Type 0 where
+  pub column : r.x0 ≤ℤ z → z ≤ℤ r.x1 →
+      square_sum adding axis r f
+      ≡ adding.plus (square_sum adding axis (record r { x1 = z }) f) (square_sum adding axis (record r { x0 = z }) f)
+  pub row : r.y0 ≤ℤ z → z ≤ℤ r.y1 →
+      square_sum adding axis r f
+      ≡ adding.plus (square_sum adding axis (record r { y1 = z }) f) (square_sum adding axis (record r { y0 = z }) f)
+
+abbrev pub CutsAdd : Type 0 → Type 0
+CutsAdd V = (adding : Adding V) (sound : V → Bool) (axis : ℕ) (r : Rect) (f : ℕ → ℤ → ℤ → Bool → V) (z : ℤ) →
+    IsAdditive adding sound → AllSound sound f → IsCutAt adding axis r f z
+
+-- layers and lines can be summed in either order
+abbrev pub LayersSwap : Type 0 → Type 0
+LayersSwap V = (adding : Adding V) (sound : V → Bool) (n : ℕ) (lo hi : ℤ) (f : ℕ → ℤ → V) →
+    IsAdditive adding sound → ((layer : ℕ) (z : ℤ) → sound (f layer z) ≡ true) →
+    total adding n (λ layer. total_between adding lo hi (f layer))
+    ≡ total_between adding lo hi (λ z. total adding n (λ layer. f layer z))
+
+-- where two lines of an axis are alike on all layers, their faces add the same
+abbrev pub LinesDecide : Type 0 → Type 0
+LinesDecide V = (plane other : Plane) (rates : Rates V) (axis : ℕ) (at at' : ℤ) →
+    ((layer : ℕ) → line_of plane layer axis at ≡ line_of other layer axis at') →
+    (layer : ℕ) (along : ℤ) (up : Bool) →
+    parts_of plane rates axis layer at along up ≡ parts_of other rates axis layer at' along up
+
+-- where a layer has metal in the window, its faces rest on squares within the halo
+abbrev pub HaloReaches : {V : Type 0} → Plane → Rates V → Rect → ℕ → Type 0
+HaloReaches plane rates window halo = (layer : ℕ) (p : Pt) →
+    covers window p ≡ true → is_some (plane layer p) ≡ true →
+    (rates.reach layer + 1 ≤ halo) × (rates.cap layer ≤ halo)
+
+-- planes that are alike in the window and its halo have the same sum over the window
+abbrev pub HalosSuffice : Type 0 → Type 0 → Type 0
+HalosSuffice V W =
+    (adding : Adding W) (worth : V → W) (plane other : Plane) (rates : Rates V) →
+    (axis : ℕ) (window : Rect) (halo : ℕ) (key : Key) →
+    HaloReaches plane rates window halo →
+    ((layer : ℕ) (p : Pt) → covers (grow window halo) p ≡ true → plane layer p ≡ other layer p) →
+    sum_in adding worth plane rates axis window key ≡ sum_in adding worth other rates axis window key
+
+-- so the tiles that share no square with them can be left out
+abbrev pub NearTilesSuffice : Type 0 → Type 0 → Type 0
+NearTilesSuffice V W =
+    (adding : Adding W) (worth : V → W) (tiles : List Tile) (keep : Tile → Bool) (rates : Rates V) →
+    (axis : ℕ) (window : Rect) (halo : ℕ) (key : Key) →
+    HaloReaches (plane_of tiles) rates window halo →
+    ((t : Tile) → SharesSquare t.rect (grow window halo) → keep t ≡ true) →
+    sum_in adding worth (plane_of tiles) rates axis window key
+    ≡ sum_in adding worth (plane_of (filter keep tiles)) rates axis window key
 
 -- a key stands for one node or for two, and a pair's nets are in order
 abbrev pub IsInOrder : Key → Type 0
@@ -97,8 +215,62 @@ IsInOrder (Pair net node other onode) = net < other
 
 -- what two metals of different nets share has one key, from either side, and its nets are in order
 abbrev pub SharesAreMutual : Type 0
-SharesAreMutual = (a b : Metal) → a.0 ≢ b.0 → (pair_key a b ≡ pair_key b a) × IsInOrder (pair_key a b) × (shared_key a b ≡ shared_key b a)
+SharesAreMutual = (a b : Metal) → a.0 ≢ b.0 →
+    (pair_key a b ≡ pair_key b a) × IsInOrder (pair_key a b) × (shared_key a b ≡ shared_key b a)
 
 -- the test of keys tells whether they are one
 abbrev pub KeysAreTold : Type 0
 KeysAreTold = (a b : Key) → IsTrue (same_key a b) ↔ (a ≡ b)
+
+-- to the value of a node its own faces add their own amount, and their share where they see grounded metal; grounded
+-- faces add their share where they see the node
+abbrev pub NodesInWords : Type 0 → Type 0 → Type 0
+NodesInWords V W =
+    (adding : Adding W) (sound : W → Bool) (worth : V → W) (face : Face) (rate : V × V) (a : Metal) →
+    IsNeutral adding sound → sound (worth rate.0) ≡ true → sound (worth rate.1) ≡ true → 0 < a.1 →
+    worth_at adding worth (Ground a.0 a.1) (parts face rate)
+    ≡ adding.plus
+    (if is_metal face.own a then worth rate.0 else adding.none)
+    (if (is_metal face.own a && sees_grounded face) || (is_grounded face.own && sees face a) then worth rate.1 else adding.none)
+
+-- to the coupling of two nodes of different nets the faces of either add their share where they see the other
+abbrev pub CouplingsInWords : Type 0 → Type 0 → Type 0
+CouplingsInWords V W =
+    (adding : Adding W) (sound : W → Bool) (worth : V → W) (face : Face) (rate : V × V) (a b : Metal) →
+    IsNeutral adding sound → sound (worth rate.0) ≡ true → sound (worth rate.1) ≡ true →
+    0 < a.1 → 0 < b.1 → a.0 ≢ b.0 →
+    worth_at adding worth (pair_key a b) (parts face rate)
+    ≡ (if (is_metal face.own a && sees face b) || (is_metal face.own b && sees face a) then worth rate.1 else adding.none)
+
+-- where both amounts of a face have a sound worth, so do its parts
+abbrev pub PartsAreSound : Type 0 → Type 0 → Type 0
+PartsAreSound V W = (sound : W → Bool) (worth : V → W) (face : Face) (rate : V × V) →
+    sound (worth rate.0) ≡ true → sound (worth rate.1) ≡ true →
+    All (λ part. sound (worth part.amount) ≡ true) (parts face rate)
+
+-- a layer's square has that node's face, in a direction of an axis
+pub record IsFaceOf {V : Type 0} (plane : Plane) (rates : Rates V) (a : Metal) (axis layer : ℕ) (at along : ℤ) (up : Bool) : Type 0 where
+  pub an_axis : axis < 2
+  pub a_layer : layer < layer_count
+  pub owns : IsSomeAnd (face_of plane rates axis layer at along up) (λ face. face.own ≡ a)
+
+-- a node has parts for its own key exactly where it owns a face
+abbrev pub NodesOwnFaces : Type 0 → Type 0
+NodesOwnFaces V = (plane : Plane) (rates : Rates V) (r : Rect) (a : Metal) →
+    HoldsMetal r plane → 0 < a.1 →
+    (0 < key_count plane rates r (Ground a.0 a.1))
+    ↔ ((axis : ℕ) × (layer : ℕ) × (at : ℤ) × (along : ℤ) × (up : Bool) × IsFaceOf plane rates a axis layer at along up)
+
+-- a key is of a net: that of its node, or of one of its two nodes
+abbrev pub IsOfNet : ℕ → Key → Type 0
+IsOfNet n (Ground net node) = net ≡ n
+IsOfNet n (Pair net node other onode) = (net ≡ n) ⊎ (other ≡ n)
+
+-- where a window and its halo have no square of a net, the window has no part for a key of that net
+abbrev pub FarNetsAddNothing : Type 0 → Type 0 → Type 0
+FarNetsAddNothing V W =
+    (adding : Adding W) (sound : W → Bool) (worth : V → W) (plane : Plane) (rates : Rates V) →
+    (axis : ℕ) (window : Rect) (halo n : ℕ) (key : Key) →
+    IsNeutral adding sound → HaloReaches plane rates window halo →
+    ((layer : ℕ) (p : Pt) → covers (grow window halo) p ≡ true → is_net n (plane layer p) ≡ false) → IsOfNet n key →
+    sum_in adding worth plane rates axis window key ≡ adding.none

@@ -9,6 +9,9 @@ use Rattle.rc_geom.specs.Rects.{covers, SharesSquare, IsInside}
 abbrev pub Metal : Type 0
 Metal = ℕ × ℕ
 
+abbrev pub is_grounded : Metal → Bool
+is_grounded a = a.1 == 0
+
 -- the metal of each unit square of each layer
 abbrev pub Plane : Type 0
 Plane = ℕ → Pt → Option Metal
@@ -18,17 +21,17 @@ abbrev pub claims : ℕ → Pt → Tile → Bool
 claims layer p t = (t.layer == layer) && covers t.rect p
 
 -- of two tiles the one of less rank, the first where they tie
-abbrev pub lesser : Option Tile → Tile → Tile
-lesser None t = t
-lesser (Some best) t = if nat_lt t.rank best.rank then t else best
+abbrev pub least_of : Option Tile → Tile → Tile
+least_of None t = t
+least_of (Some best) t = if nat_lt t.rank best.rank then t else best
 
 -- the owner among some tiles, and among one more
-abbrev pub claimed : ℕ → Pt → Option Tile → Tile → Option Tile
-claimed layer p best t = if claims layer p t then Some (lesser best t) else best
+abbrev pub next_owner : ℕ → Pt → Option Tile → Tile → Option Tile
+next_owner layer p best t = if claims layer p t then Some (least_of best t) else best
 
 -- of the tiles that cover the square on that layer, the one of least rank, the first among equals
 abbrev pub owner : List Tile → ℕ → Pt → Option Tile
-owner tiles layer p = fold (claimed layer p) None tiles
+owner tiles layer p = fold (next_owner layer p) None tiles
 
 -- each square has the net and node of its owner
 abbrev pub plane_of : List Tile → Plane
@@ -48,7 +51,8 @@ NetsApart tiles = AllPairs (λ a b. a.net ≢ b.net → ¬ Overlaps a b) tiles
 
 -- no square is the tile's: each that it covers is covered by one of the others of less rank
 abbrev pub NeverOwns : Tile → List Tile → Type 0
-NeverOwns t others = (p : Pt) → IsTrue (covers t.rect p) → Any (λ o. IsTrue (claims t.layer p o) × (o.rank < t.rank)) others
+NeverOwns t others =
+    (p : Pt) → IsTrue (covers t.rect p) → Any (λ o. IsTrue (claims t.layer p o) × (o.rank < t.rank)) others
 
 -- all tiles lie in the rectangle
 abbrev pub HoldsTiles : Rect → List Tile → Type 0

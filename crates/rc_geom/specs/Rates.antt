@@ -14,4 +14,5 @@ pub record Rates (V : Type 0) : Type 0 where
 
 -- the amounts of a face over a square
 abbrev pub rate_of : {V : Type 0} → Rates V → Plane → ℕ → Pt → Face → V × V
-rate_of rates plane layer p face = rates.rate layer (under plane layer p) (over plane layer p) face.thick (option_map (λ seen. seen.0) face.sight)
+rate_of rates plane layer p face =
+    rates.rate layer (under plane layer p) (over plane layer p) face.thick (option_map (λ seen. seen.0) face.sight)

@@ -1,5 +1,5 @@
 -- Rectangles, and the unit squares and points in them. A unit square is named by its lower left corner.
-use Rattle.std.specs.Prelude.{pos, negsuc, int_lt, int_le, ◌≤ℤ◌, ◌<ℤ◌, ◌^◌, ◌+◌, ◌&&◌, Bool, IsTrue}
+use Rattle.std.specs.Prelude.{ℕ, ◌+ℤ◌, ◌-ℤ◌, pos, negsuc, int_lt, int_le, ◌≤ℤ◌, ◌<ℤ◌, ◌^◌, ◌+◌, ◌&&◌, Bool, IsTrue}
 use Rattle.std.specs.Int.{int_max, int_min}
 use Rattle.rc_geom.specs.declared.rect.Pt.{Pt}
 use Rattle.rc_geom.specs.declared.rect.Rect.{Rect}
@@ -13,8 +13,8 @@ abbrev pub touches : Rect → Pt → Bool
 touches r p = int_le r.x0 p.x && int_le p.x r.x1 && (int_le r.y0 p.y && int_le p.y r.y1)
 
 -- the greater of the lower ends, and the lesser of the upper ones
-abbrev pub common : Rect → Rect → Rect
-common a b = record { x0 = int_max a.x0 b.x0; y0 = int_max a.y0 b.y0; x1 = int_min a.x1 b.x1; y1 = int_min a.y1 b.y1 }
+abbrev pub common_part : Rect → Rect → Rect
+common_part a b = record { x0 = int_max a.x0 b.x0; y0 = int_max a.y0 b.y0; x1 = int_min a.x1 b.x1; y1 = int_min a.y1 b.y1 }
 
 -- its ends leave room for a unit square, or for a point
 abbrev pub has_squares : Rect → Bool
@@ -49,6 +49,10 @@ pub record IsInside (inner outer : Rect) : Type 0 where
   pub right : inner.x1 ≤ℤ outer.x1
   pub below : outer.y0 ≤ℤ inner.y0
   pub above : inner.y1 ≤ℤ outer.y1
+
+-- the rectangle with that much more on each side
+abbrev pub grow : Rect → ℕ → Rect
+grow r by = record { x0 = r.x0 -ℤ pos by; y0 = r.y0 -ℤ pos by; x1 = r.x1 +ℤ pos by; y1 = r.y1 +ℤ pos by }
 
 -- its coordinates are within 2^29 + 1 of 0
 pub record IsNear (p : Pt) : Type 0 where

@@ -11,6 +11,6 @@ abbrev pub reach_to : ℤ → ℤ → ℕ
 reach_to s z = unsigned_abs ((s +ℤ s +ℤ pos 1) -ℤ (z +ℤ z))
 
 -- a coordinate of a layout: it is within 2^29 of 0
-pub record IsWithin (z : ℤ) : Type 0 where
+pub record IsCoordinate (z : ℤ) : Type 0 where
   pub low : negsuc (2 ^ 29 - 1) ≤ℤ z
   pub high : z ≤ℤ pos (2 ^ 29)

@@ -9,16 +9,19 @@ pub record Adding (V : Type 0) : Type 0 where
   pub none : V
   pub plus : V → V → V
 
--- adding nothing changes nothing
-pub record IsNeutral {V : Type 0} (adding : Adding V) : Type 0 where
-  pub before : (v : V) → adding.plus adding.none v ≡ v
-  pub after : (v : V) → adding.plus v adding.none ≡ v
+-- among sound amounts, which sums don't leave, adding nothing changes nothing
+pub record IsNeutral {V : Type 0} (adding : Adding V) (sound : V → Bool) : Type 0 where
+  pub start : sound adding.none ≡ true
+  pub closed : (a b : V) → sound a ≡ true → sound b ≡ true → sound (adding.plus a b) ≡ true
+  pub before : (v : V) → sound v ≡ true → adding.plus adding.none v ≡ v
+  pub after : (v : V) → sound v ≡ true → adding.plus v adding.none ≡ v
 
--- the order and the grouping don't matter either
-pub record IsAdditive {V : Type 0} (adding : Adding V) : Type 0 where
-  pub neutral : IsNeutral adding
-  pub swap : (a b : V) → adding.plus a b ≡ adding.plus b a
-  pub regroup : (a b c : V) → adding.plus (adding.plus a b) c ≡ adding.plus a (adding.plus b c)
+-- and the order and the grouping don't matter either
+pub record IsAdditive {V : Type 0} (adding : Adding V) (sound : V → Bool) : Type 0 where
+  pub neutral : IsNeutral adding sound
+  pub swap : (a b : V) → sound a ≡ true → sound b ≡ true → adding.plus a b ≡ adding.plus b a
+  pub regroup : (a b c : V) → sound a ≡ true → sound b ≡ true → sound c ≡ true →
+      adding.plus (adding.plus a b) c ≡ adding.plus a (adding.plus b c)
 
 -- plain numbers
 abbrev pub numbers : Adding ℕ
@@ -29,13 +32,13 @@ unfoldable pub total : {V : Type 0} → Adding V → ℕ → (ℕ → V) → V
 total adding n f = fold (λ sum k. adding.plus sum (f k)) adding.none (range_with_len 0 n)
 
 -- a whole number; 0 where it is negative
-abbrev pub at_least_0 : ℤ → ℕ
-at_least_0 (pos n) = n
-at_least_0 (negsuc _) = 0
+abbrev pub natural : ℤ → ℕ
+natural (pos n) = n
+natural (negsuc _) = 0
 
 -- how many whole numbers there are from lo to below hi
 abbrev pub extent : ℤ → ℤ → ℕ
-extent lo hi = at_least_0 (hi -ℤ lo)
+extent lo hi = natural (hi -ℤ lo)
 
 -- f lo, f (lo + 1), .. f (hi - 1), added in this order
 abbrev pub total_between : {V : Type 0} → Adding V → ℤ → ℤ → (ℤ → V) → V
@@ -64,7 +67,9 @@ both_directions adding f = adding.plus (f false) (f true)
 
 -- what the squares of a rectangle add on a layer: by lines, by places, by directions
 abbrev pub layer_sum : {V : Type 0} → Adding V → ℕ → Rect → (ℤ → ℤ → Bool → V) → V
-layer_sum adding axis r f = total_between adding (first_line axis r) (end_line axis r) (λ at. total_between adding (first_place axis r) (end_place axis r) (λ along. both_directions adding (f at along)))
+layer_sum adding axis r f =
+    total_between adding (first_line axis r) (end_line axis r) (λ at.
+    total_between adding (first_place axis r) (end_place axis r) (λ along. both_directions adding (f at along)))
 
 -- the same of all layers
 abbrev pub square_sum : {V : Type 0} → Adding V → ℕ → Rect → (ℕ → ℤ → ℤ → Bool → V) → V

@@ -1,7 +1,7 @@
 //! What is proved of the definitions, each law on a function that does nothing.
 
 ghost use Rattle.rc_geom.specs.Line.{Line};
-ghost use Rattle.rc_geom.specs.Laws.{OwnersAreLeast, OrderIsFree, OwnersSuffice, IsMirrored, ThicknessIsARun, FacesAreThick, SightIsFirst, SightIsMutual, InnerSumsSuffice, TilesHoldMetal, MetalBounds, ValuesAreBounded, SharesAreMutual, KeysAreTold};
+ghost use Rattle.rc_geom.specs.Laws.{OwnersAreLeast, OrderIsFree, OwnersSuffice, IsMirrored, ThicknessIsARun, FacesAreThick, SightIsFirst, SightIsMutual, FacesAreLocal, UnderIsHighest, OverIsLowest, InnerSumsSuffice, TilesHoldMetal, MetalBounds, ValuesAreBounded, CutsAdd, LayersSwap, LinesDecide, HalosSuffice, NearTilesSuffice, SharesAreMutual, KeysAreTold, NodesInWords, CouplingsInWords, PartsAreSound, SoundRatesSuffice, NodesOwnFaces, FarNetsAddNothing};
 
 /// A square's owner is the tile of least rank among those that cover it; it has none only where no tile covers it.
 pub fn owners_are_least()
@@ -45,6 +45,22 @@ pub fn sight_is_mutual()
     ensures { SightIsMutual }
 {}
 
+/// A face rests on the squares up to one past the reach before it, and on those below the cap behind it, and on no
+/// others of its line.
+pub fn faces_are_local()
+    ensures { FacesAreLocal }
+{}
+
+/// The layer under a square is the highest one below with metal over it.
+pub fn under_is_highest()
+    ensures { UnderIsHighest }
+{}
+
+/// The layer over a square is the lowest one above with metal over it.
+pub fn over_is_lowest()
+    ensures { OverIsLowest }
+{}
+
 /// A rectangle's sum is that of a smaller one in it, where the squares outside the smaller one add nothing.
 pub fn inner_sums_suffice<V>()
     ensures { InnerSumsSuffice V }
@@ -65,6 +81,32 @@ pub fn values_are_bounded<V>()
     ensures { ValuesAreBounded V }
 {}
 
+/// A rectangle that is cut in two, at a column or at a row, has the sum of both parts.
+pub fn cuts_add<V>()
+    ensures { CutsAdd V }
+{}
+
+/// A sum over layers and lines is the same in either order.
+pub fn layers_swap<V>()
+    ensures { LayersSwap V }
+{}
+
+/// What the faces of a line add rests on the lines that stand there, one on each layer, and not on where they stand.
+pub fn lines_decide<V>()
+    ensures { LinesDecide V }
+{}
+
+/// Planes that are alike in a window and its halo have the same sums over the window: amounts of `V`, each by its worth
+/// in `W`.
+pub fn halos_suffice<V, W>()
+    ensures { HalosSuffice V W }
+{}
+
+/// A window's sum is that of the tiles which share a square with the window or its halo.
+pub fn near_tiles_suffice<V, W>()
+    ensures { NearTilesSuffice V W }
+{}
+
 /// What metals of two nets share has one key, from either side, and in a pair the lower net comes first.
 pub fn shares_are_mutual()
     ensures { SharesAreMutual }
@@ -73,4 +115,36 @@ pub fn shares_are_mutual()
 /// The test of two keys passes exactly where they are one.
 pub fn keys_are_told()
     ensures { KeysAreTold }
+{}
+
+/// What a face adds to the value of a node: its own amount and what it shares with grounded metal, where it is the
+/// node's; its share, where it is grounded and sees the node.
+pub fn nodes_in_words<V, W>()
+    ensures { NodesInWords V W }
+{}
+
+/// What a face adds to the coupling of two nodes: its share, where it is either's and sees the other.
+pub fn couplings_in_words<V, W>()
+    ensures { CouplingsInWords V W }
+{}
+
+/// Where both amounts of a face have a sound worth, so do its parts.
+pub fn parts_are_sound<V, W>()
+    ensures { PartsAreSound V W }
+{}
+
+/// Where the rates of layers that have metal are sound, at the thicknesses and gaps that faces have, so is each amount
+/// that a face adds.
+pub fn sound_rates_suffice<V, W>()
+    ensures { SoundRatesSuffice V W }
+{}
+
+/// A node has parts for its own key exactly where it owns a face, in a rectangle that holds all metal.
+pub fn nodes_own_faces<V>()
+    ensures { NodesOwnFaces V }
+{}
+
+/// Where a window and its halo have no square of a net, the window has no part for a key of that net.
+pub fn far_nets_add_nothing<V, W>()
+    ensures { FarNetsAddNothing V W }
 {}

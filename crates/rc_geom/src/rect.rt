@@ -1,6 +1,5 @@
 ghost use Rattle.std.specs.Prelude.{◌≡◌, ◌↔◌, IsTrue, MatchOption};
-ghost use Rattle.std.specs.Int.{int_max, int_min};
-ghost use Rattle.rc_geom.specs.Rects.{common as common_of, has_squares as has_squares_of, has_points as has_points_of, SharesSquare, IsLowestCommon, IsApart};
+ghost use Rattle.rc_geom.specs.Rects.{common_part, has_squares as has_squares_of, has_points as has_points_of, SharesSquare, IsLowestCommon, IsApart};
 
 /// A point, or the unit square that has it as its lower left corner. Coordinates are in units of the layout.
 #[derive(Clone, Copy, Debug, PartialEq, Eq)]
@@ -20,27 +19,15 @@ pub struct Rect {
     pub y1: i32,
 }
 
-fn greater(a: i32, b: i32) -> i32
-    ensures { result ≡ int_max a b }
-{
-    if b < a { a } else { b }
-}
-
-fn lesser(a: i32, b: i32) -> i32
-    ensures { result ≡ int_min a b }
-{
-    if b < a { b } else { a }
-}
-
 /// The common part of two rectangles; its ends are out of order where they have none.
 fn common(a: Rect, b: Rect) -> Rect
-    ensures { result ≡ common_of a b }
+    ensures { result ≡ common_part a b }
 {
     Rect {
-        x0: greater(a.x0, b.x0),
-        y0: greater(a.y0, b.y0),
-        x1: lesser(a.x1, b.x1),
-        y1: lesser(a.y1, b.y1),
+        x0: a.x0.max(b.x0),
+        y0: a.y0.max(b.y0),
+        x1: a.x1.min(b.x1),
+        y1: a.y1.min(b.y1),
     }
 }
 
