@@ -1,10 +1,15 @@
 ghost use Rattle.std.specs.Prelude.{◌≡◌, ◌≢◌, ◌⊎◌, ◌≤◌, ◌++◌, codes, IfOk, OnOk};
 ghost use Rattle.rc_io.specs.Causes.{Rose};
 ghost use Rattle.rc_io.specs.Bytes.{grown, GrewByPrefix};
-ghost use Rattle.rc_cli.specs.Outcome.{form_line as form_line_of};
+ghost use Rattle.std.specs.Fmt.{signed_decimal};
+ghost use Rattle.rc_keys.specs.Names.{code_name};
+ghost use Rattle.rc_keys.specs.declared.code.Code.TheVariants as Code;
+ghost use Rattle.rc_cli.specs.Outcome.{form_line as form_line_of, refusal_line};
 ghost use Rattle.rc_cli.specs.Answers.{read_fault_line as read_fault_line_of, usage_line, no_memory_line};
 
+use itoa::Buffer;
 use rc_fixed::{NoMemory, Text};
+use rc_geom::Pt;
 use rc_io::{Sink, write_all};
 use std::alloc::Global;
 
@@ -25,6 +30,32 @@ pub fn form_line(alloc: Global, name: &str) -> Result<Text, NoMemory>
     let mut line = Vec::from_slice(alloc, b"rcx: E04 ")?;
     line.extend_from_slice(name.as_bytes())?;
     line.extend_from_slice(b" 1\n")?;
+    Ok(Text::from_vec(line))
+}
+
+/// The line of two nets that meet on a layer: their names, the layer's, and the lower left corner of what their shapes have in
+/// common, in units of 1/1000 micron.
+pub fn short_line(
+    alloc: Global,
+    first: &[u8],
+    second: &[u8],
+    layer: &[u8],
+    corner: Pt,
+) -> Result<Text, NoMemory>
+    ensures { IfOk result (λ line. line ≡ refusal_line (code_name Code.E13) (first.now ++ codes " " ++ second.now ++ codes " " ++ layer.now
+        ++ codes " " ++ signed_decimal corner.x ++ codes " " ++ signed_decimal corner.y)) }
+{
+    let mut line = Vec::from_slice(alloc, b"rcx: E13 ")?;
+    line.extend_from_slice(first)?;
+    line.push(b' ')?;
+    line.extend_from_slice(second)?;
+    line.push(b' ')?;
+    line.extend_from_slice(layer)?;
+    line.push(b' ')?;
+    line.extend_from_slice(Buffer::new().format(corner.x).as_bytes())?;
+    line.push(b' ')?;
+    line.extend_from_slice(Buffer::new().format(corner.y).as_bytes())?;
+    line.push(b'\n')?;
     Ok(Text::from_vec(line))
 }
 
