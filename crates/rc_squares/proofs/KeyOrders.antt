@@ -6,7 +6,6 @@ use Rattle.std.specs.declared.cmp.Ordering.TheVariants.{Less, Equal, Greater}
 use Rattle.std.specs.Ordering.{is_eq, ordering_then, nat_cmp}
 use Rattle.std.proofs.lemmas.Bool.{ltb-true, ne_eqb}
 use Rattle.rc_geom.specs.contracts.key.KeyOrd.TheImpl as block
-use Rattle.rc_geom.specs.declared.key.Key.{Key}
 use Rattle.rc_geom.specs.declared.key.Key.TheVariants.{Ground, Pair}
 use Rattle.rc_squares.specs.Tallies.{KeyOrder}
 use Rattle.rc_squares.proofs.Tallies.{TellsKeys}

@@ -1,6 +1,5 @@
 pub mod Ranges
 pub mod Squares
-pub mod Axes
 pub mod Worths
 pub mod Tallies
 pub mod KeyOrders

@@ -1,5 +1,5 @@
 -- The last and the first number of a range that pass a test.
-use Rattle.std.proofs.Common.{◌≡◌, ◌<◌, ◌≤◌, ◌+◌, ◌-◌, ℕ, suc, Bool, true, false, cond, Option, Some, None, [], ◌∷◌, ◌++◌, refl, ap, sym, ◌∙◌, arith, map-id}
+use Rattle.std.proofs.Common.{◌≡◌, ◌<◌, ◌+◌, ◌-◌, ℕ, suc, Bool, true, false, cond, Option, Some, None, [], ◌∷◌, ◌++◌, ap, sym, ◌∙◌, arith, map-id}
 use Rattle.std.specs.List.{find, range_with_len}
 use Rattle.std.proofs.lemmas.List.FromFn.{map-range_with_len_more}
 use Rattle.std.proofs.lemmas.List.Sums.{fold_push}

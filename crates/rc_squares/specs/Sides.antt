@@ -1,5 +1,5 @@
 -- What a unit square has on its sides.
-use Rattle.std.specs.Prelude.{◌≤◌, ◌≤ℤ◌, ◌^◌, ℕ, zero, suc, ℤ, Bool, true, false, not, Option, List}
+use Rattle.std.specs.Prelude.{ℕ, zero, suc, ℤ, Bool, true, false, not, Option, List}
 use Rattle.rc_geom.specs.declared.rect.Pt.{Pt}
 use Rattle.rc_geom.specs.declared.tile.Side.{Side}
 use Rattle.rc_geom.specs.declared.tile.Side.TheVariants.{Left, Right, Down, Up}

@@ -220,6 +220,8 @@ pub fn key_sum<R: FaceRates>(tiles: &[Tile], rates: &R, area: &Rect, key: Key) -
     requires area { IsNearRect area.now }
     ensures count { result.count ≡ key_count (plane_of tiles.now) (R.rates_of rates.now) area.now key }
     ensures value { result.value ≡ key_value numbers (plane_of tiles.now) (R.rates_of rates.now) area.now key }
+    ensures few { result.count ≤ 2 ^ 70 }
+    ensures small { result.value ≤ 2 ^ 127 }
 {
     plus(
         sum_in::<0, R>(tiles, rates, area, key),

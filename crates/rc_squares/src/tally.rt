@@ -1,4 +1,4 @@
-ghost use Rattle.std.specs.Prelude.{◌≡◌, ◌+◌, ◌<◌, ◌≤◌, ◌^◌, Some, OnOk, IfSome, option_map};
+ghost use Rattle.std.specs.Prelude.{◌≡◌, ◌+◌, ◌<◌, ◌^◌, Some, OnOk, IfSome, option_map};
 ghost use Rattle.std.specs.BTreeMap.{IsEmpty};
 ghost use Rattle.rc_squares.specs.Found.{part_value};
 ghost use Rattle.rc_squares.specs.Worths.{part_worth};

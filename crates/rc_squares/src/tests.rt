@@ -1,9 +1,14 @@
-ghost use Rattle.std.specs.Prelude.{◌≡◌, ◌<◌, ◌+◌, ◌*◌, ◌≤ℤ◌, pos, negsuc, unwrap_or};
+ghost use Rattle.std.specs.Prelude.{◌≡◌, All, ◌<◌, ◌+◌, ◌*◌, ◌≤ℤ◌, pos, negsuc, unwrap_or};
 ghost use Rattle.std.specs.Option.{option_map_or};
 ghost use Rattle.rc_geom.specs.Rects.{IsNear};
 
-use crate::{Face, FaceRates, Sum, context, face_at, key_sum, metal_at, sight, sum_in, thickness};
+use crate::{
+    Entry, Face, FaceRates, Sum, context, face_at, key_sum, metal_at, sight, sum_in, sums_in,
+    thickness,
+};
 use rc_geom::{Key, Pt, Rect, Side, Tile};
+use std::process::Abort;
+use std::test::Fail;
 
 /// Cap 2 and reach 3 on every layer. A face's own amount has its layer, its thickness and its gap as digits, 9 where it
 /// sees nothing; what it shares is 1000 more than thickness and gap.
@@ -131,58 +136,81 @@ fn two_bars(rt: HostRuntime) {
     }
 }
 
+/// Compares the sums of some keys of a layout.
+fn compare(rt: &impl Abort, tiles: &[Tile], rows: &[(&str, Key, Sum)])
+    requires { All (λ tile. tile.layer < 32) tiles.now }
+{
+    for (what, key, wanted) in rows {
+        assert_eq!(rt; key_sum(tiles, &Digits, &AREA, *key), *wanted, "{what}");
+    }
+}
+
 #[test]
 fn keys_of_small_layouts(rt: HostRuntime) {
     let row_of_three = [bar(1, 1, 0, 1, 0), bar(2, 1, 2, 3, 0), bar(3, 1, 4, 5, 0)];
+    compare(
+        &rt,
+        &row_of_three,
+        &[
+            ("the nearest are seen", pair(1, 1, 2, 1), sum(2, 2022)),
+            ("and the nearest behind", pair(2, 1, 3, 1), sum(2, 2022)),
+            ("the middle hides", pair(1, 1, 3, 1), sum(0, 0)),
+            ("the higher net first", pair(2, 1, 1, 1), sum(0, 0)),
+        ],
+    );
     let own_between = [bar(1, 1, 0, 1, 0), bar(1, 2, 2, 3, 0), bar(2, 1, 4, 5, 0)];
-    let overlap = [bar(1, 1, 0, 2, 1), bar(1, 2, 1, 3, 0), bar(9, 9, 11, 12, 0)];
-    let overlap_turned = [bar(1, 2, 1, 3, 0), bar(1, 1, 0, 2, 1), bar(9, 9, 11, 12, 0)];
-    let grounded = [bar(1, 1, 0, 1, 0), bar(2, 0, 2, 3, 0), bar(9, 9, 11, 12, 0)];
-    let rows = [
-        (
-            "the nearest are seen",
-            row_of_three,
-            pair(1, 1, 2, 1),
-            sum(2, 2022),
-        ),
-        (
-            "and the nearest behind",
-            row_of_three,
-            pair(2, 1, 3, 1),
-            sum(2, 2022),
-        ),
-        (
-            "the middle hides",
-            row_of_three,
-            pair(1, 1, 3, 1),
-            sum(0, 0),
-        ),
-        (
-            "the higher net first",
-            row_of_three,
-            pair(2, 1, 1, 1),
-            sum(0, 0),
-        ),
-        ("own metal hides", own_between, pair(1, 1, 2, 1), sum(0, 0)),
-        (
-            "own metal is no pair",
-            own_between,
-            pair(1, 1, 1, 2),
-            sum(0, 0),
-        ),
-        ("own metal has a gap", own_between, node(1, 1), sum(4, 468)),
-        ("the lower rank owns", overlap, node(1, 1), sum(3, 367)),
-        ("and all of its own", overlap, node(1, 2), sum(5, 605)),
-        ("in either order", overlap_turned, node(1, 1), sum(3, 367)),
-        ("in either order", overlap_turned, node(1, 2), sum(5, 605)),
-        ("what ground shares", grounded, node(1, 1), sum(6, 2490)),
-        ("ground has no key", grounded, node(2, 0), sum(0, 0)),
-        ("one square", grounded, node(9, 9), sum(4, 476)),
-        ("nobody", grounded, node(9, 8), sum(0, 0)),
+    compare(
+        &rt,
+        &own_between,
+        &[
+            ("own metal hides", pair(1, 1, 2, 1), sum(0, 0)),
+            ("own metal is no pair", pair(1, 1, 1, 2), sum(0, 0)),
+            ("own metal has a gap", node(1, 1), sum(4, 468)),
+        ],
+    );
+    let overlap = [
+        ("the lower rank owns", node(1, 1), sum(3, 367)),
+        ("and all of its own", node(1, 2), sum(5, 605)),
     ];
-    for (what, tiles, key, wanted) in rows {
-        assert_eq!(rt; key_sum(&tiles, &Digits, &AREA, key), wanted, "{what}");
-    }
+    compare(&rt, &[bar(1, 1, 0, 2, 1), bar(1, 2, 1, 3, 0)], &overlap);
+    compare(&rt, &[bar(1, 2, 1, 3, 0), bar(1, 1, 0, 2, 1)], &overlap);
+}
+
+#[test]
+fn keys_beside_ground(rt: HostRuntime) {
+    let grounded = [bar(1, 1, 0, 1, 0), bar(2, 0, 2, 3, 0), bar(9, 9, 11, 12, 0)];
+    compare(
+        &rt,
+        &grounded,
+        &[
+            ("what ground shares", node(1, 1), sum(6, 2490)),
+            ("ground has no key", node(2, 0), sum(0, 0)),
+            ("one square", node(9, 9), sum(4, 476)),
+            ("nobody", node(9, 8), sum(0, 0)),
+        ],
+    );
+}
+
+fn entry(key: Key, count: u128, value: u128) -> Entry {
+    Entry { key, count, value }
+}
+
+#[test]
+fn all_keys_at_once(rt: HostRuntime) -> Result<(), Fail> {
+    let row_of_three = [bar(3, 1, 4, 5, 0), bar(1, 1, 0, 1, 0), bar(2, 1, 2, 3, 0)];
+    let wanted = [
+        entry(node(1, 1), 4, 468),
+        entry(node(2, 1), 4, 460),
+        entry(node(3, 1), 4, 468),
+        entry(pair(1, 1, 2, 1), 2, 2022),
+        entry(pair(2, 1, 3, 1), 2, 2022),
+    ];
+    let list = sums_in(rt.alloc(), &row_of_three, &Digits, &AREA)?;
+    assert_eq!(rt; list.items(), wanted.as_slice());
+    let grounded = [bar(1, 1, 0, 1, 0), bar(2, 0, 2, 3, 0)];
+    let list = sums_in(rt.alloc(), &grounded, &Digits, &AREA)?;
+    assert_eq!(rt; list.items(), [entry(node(1, 1), 6, 2490)].as_slice());
+    Ok(())
 }
 
 #[test]

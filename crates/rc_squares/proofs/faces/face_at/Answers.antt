@@ -1,4 +1,4 @@
-use Rattle.std.proofs.Common.{sym, ◌∙◌}
+use Rattle.std.proofs.Common.{sym}
 use Rattle.rc_geom.specs.Plane.{plane_of}
 use Rattle.rc_squares.proofs.Squares.{face_of_none}
 use Rattle.rc_squares.proofs.faces.face_at.Goals as goal

@@ -1,5 +1,4 @@
-use Rattle.std.proofs.Common.{◌+◌, ℕ, sym, ap, ◌∙◌, arith}
-use Rattle.std.specs.Prelude.{is_some}
+use Rattle.std.proofs.Common.{◌+◌, sym, arith}
 use Rattle.rc_geom.specs.Plane.{plane_of}
 use Rattle.rc_geom.proofs.Rays.{gap_is}
 use Rattle.rc_squares.specs.Sides.{ahead}

@@ -1,4 +1,4 @@
-use Rattle.std.proofs.Common.{sym, ap, ◌∙◌, arith}
+use Rattle.std.proofs.Common.{arith}
 use Rattle.std.specs.Prelude.{is_some}
 use Rattle.rc_geom.specs.Plane.{plane_of}
 use Rattle.rc_squares.proofs.Ranges.{find_fails}

@@ -1,6 +1,5 @@
-use Rattle.std.proofs.Common.{sym, ap, ◌∙◌, arith}
+use Rattle.std.proofs.Common.{sym, arith}
 use Rattle.rc_geom.specs.Plane.{plane_of}
-use Rattle.rc_geom.specs.Faces.{is_net}
 use Rattle.rc_geom.proofs.Rays.{thickness_is}
 use Rattle.rc_squares.specs.Sides.{behind}
 use Rattle.rc_squares.proofs.Squares.{across}

@@ -1,4 +1,4 @@
-use Rattle.std.proofs.Common.{ℕ, Bool, sym, ap, ◌∙◌}
+use Rattle.std.proofs.Common.{ℕ, Bool}
 use Rattle.std.specs.Prelude.{is_some}
 use Rattle.rc_geom.specs.Plane.{plane_of}
 use Rattle.rc_squares.proofs.Ranges.{last_passes, last_fails}

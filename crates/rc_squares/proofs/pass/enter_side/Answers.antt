@@ -1,4 +1,4 @@
-use Rattle.std.proofs.Common.{ℕ, Option, ◌≤◌, arith}
+use Rattle.std.proofs.Common.{ℕ, Option, arith}
 use Rattle.std.specs.Prelude.{option_map}
 use Rattle.rc_geom.specs.declared.key.Key.{Key}
 use Rattle.rc_geom.specs.Parts.{Part}

@@ -1,6 +1,5 @@
-use Rattle.std.proofs.Common.{ℕ, true, false, ◌≤◌, sym, ap, ◌∙◌, arith}
+use Rattle.std.proofs.Common.{ℕ, sym, arith}
 use Rattle.rc_geom.specs.declared.key.Key.{Key}
-use Rattle.rc_geom.specs.declared.tile.Side.{Side}
 use Rattle.rc_geom.specs.Plane.{plane_of}
 use Rattle.rc_squares.specs.Worths.{side_worth, square_worth}
 use Rattle.rc_squares.proofs.Worths.{metal_has, square_sides, square_bare}

@@ -1,4 +1,3 @@
-use Rattle.std.proofs.Common.{◌+◌, ◌∙◌}
 use Rattle.std.specs.Prelude.{option_map}
 use Rattle.rc_geom.specs.Plane.{plane_of}
 use Rattle.rc_squares.specs.Found.{part_value}
