@@ -7,6 +7,7 @@ pub mod DesignForm
 pub mod RuleForm
 pub mod Ranges
 pub mod Layout
+pub mod Shapes
 pub mod Rate
 pub mod Parasitics
 pub mod SpefText

@@ -4,6 +4,7 @@
 mod command;
 mod design;
 mod laws;
+mod layout;
 mod line;
 mod number;
 mod rules;
