@@ -1,23 +1,23 @@
 -- How the work goes on, stage by stage.
 use Rattle.std.proofs.Common.{◌≡◌, ◌<◌, ◌≤◌, ◌-◌, ℕ, List, Bool, true, false, cond, Option, Some, None, length, ap, ◌∙◌, refl, sym, arith}
-use Rattle.std.specs.Prelude.{nat_lt, IsTrue}
+use Rattle.std.specs.Prelude.{nat_lt, IsTrue, Result, Ok, Err, IfOk, IfErr}
 use Rattle.std.proofs.Common.{inl, inr, subst}
 use Rattle.rc_io.specs.Causes.{Rose}
 use Rattle.std.proofs.lemmas.Bool.Decides.{nat_tests}
 use Rattle.rc_cli.specs.Command.{Extract}
 use Rattle.rc_cli.specs.TechForm.{Tech, tech_of}
 use Rattle.rc_cli.specs.DesignForm.{Design, design_of}
-use Rattle.rc_cli.specs.RuleForm.{rules_of}
-use Rattle.rc_cli.specs.Layout.{Layout, linked}
+use Rattle.rc_cli.specs.RuleForm.{rules_of, Rules as RuleValues}
+use Rattle.rc_cli.specs.Layout.{Layout, linked, first_short}
 use Rattle.rc_cli.specs.declared.work.Stop.{Stop}
 use Rattle.rc_cli.specs.declared.work.Stop.TheVariants.{Refused, Fault, NoMemory}
 use Rattle.rc_cli.specs.declared.command.FileWord.{FileWord}
 use Rattle.rc_cli.specs.declared.command.FileWord.TheVariants.{Rules, Def, Lef}
 use Rattle.rc_cli.specs.Command.{file_name}
 use Rattle.rc_cli.specs.Answers.{Sources, IsReached, IsFile}
-use Rattle.rc_cli.specs.Work.{HasStopped, IsUnread, IsRefusedBy}
+use Rattle.rc_cli.specs.Work.{HasStopped, IsUnread, IsRefusedBy, IsUnextracted}
 use Rattle.rc_cli.specs.Outcome as course
-use Rattle.rc_cli.specs.Outcome.{Texts, Course, Done, proceed, formed, read_within, bytes_line, form_line, most_bytes, technology, layout, inputs, outcome}
+use Rattle.rc_cli.specs.Outcome.{Texts, Course, Done, proceed, extracted, formed, read_within, bytes_line, form_line, most_bytes, technology, layout, inputs, outcome}
 
 -- a file that is too long
 pub too_long : {A : Type 0} (name text : List ℕ) (room : ℕ) (form : List ℕ → Option A) (found : Option (List ℕ)) →
@@ -132,3 +132,30 @@ since s later name word room NoMemory tells texts before after stopped = tt
 pub found-since : (tells later : Bool) (texts later_texts : Texts) (name text : List ℕ) → later ≡ tells → ((n : List ℕ) → later_texts n ≡ texts n) →
     (IsTrue later → later_texts name ≡ Some text) → IsTrue tells → texts name ≡ Some text
 found-since tells later texts later_texts name text same_tells same found told = sym (same name) ∙ found (subst IsTrue (sym same_tells) told)
+
+-- what the inputs come to is what the run comes to
+pub outcome-extracted : (tells : Bool) (texts : Texts) (asked : Extract) (name text : List ℕ) (linked : Layout) (room : ℕ) (rules : RuleValues) → HasLayout tells texts asked linked room →
+    name ≡ asked.rules → (IsTrue tells → texts name ≡ Some text) → length text ≤ room → rules_of linked.layer text ≡ Some rules →
+    IsTrue tells → outcome texts asked ≡ extracted linked rules (first_short linked)
+unfolding outcome inputs
+outcome-extracted tells texts asked name text linked room rules before is found short some told =
+    rw (before told, formed_within asked.rules text room (room - length text) (rules_of linked.layer) rules (texts asked.rules) (ap texts (sym is) ∙ found told) short refl some) refl
+
+-- what stops the extraction stops the work
+pub unextracted : (s : Sources) (asked : Extract) (linked : Layout) (rules : RuleValues) (why : Stop) → (IsTrue s.tells → outcome s.texts asked ≡ extracted linked rules (first_short linked)) →
+    IsUnextracted linked rules why → HasStopped s asked why
+unextracted s asked linked rules (Refused line) comes refused = λ told. comes told ∙ refused
+unextracted s asked linked rules (Fault word) comes refused = absurd refused
+unextracted s asked linked rules NoMemory comes refused = tt
+
+-- the text of an extraction, and what stops one, as the work tells them
+pub told-text : (r : Result (List ℕ) Stop) (tells : Bool) (texts : Texts) (asked : Extract) (linked : Layout) (rules : RuleValues) →
+    (IsTrue tells → outcome texts asked ≡ extracted linked rules (first_short linked)) → IfOk r (λ text. extracted linked rules (first_short linked) ≡ Done text) →
+    IfOk r (λ text. IsTrue tells → outcome texts asked ≡ Done text)
+told-text (Ok text) tells texts asked linked rules comes done = λ told. comes told ∙ done
+told-text (Err why) tells texts asked linked rules comes done = tt
+
+pub told-stop : (r : Result (List ℕ) Stop) (s : Sources) (asked : Extract) (linked : Layout) (rules : RuleValues) →
+    (IsTrue s.tells → outcome s.texts asked ≡ extracted linked rules (first_short linked)) → IfErr r (IsUnextracted linked rules) → IfErr r (λ why. HasStopped s asked why)
+told-stop (Ok text) s asked linked rules comes stopped = tt
+told-stop (Err why) s asked linked rules comes stopped = unextracted s asked linked rules why comes stopped

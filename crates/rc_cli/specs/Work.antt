@@ -5,7 +5,9 @@ use Rattle.rc_cli.specs.declared.command.FileWord.{FileWord}
 use Rattle.rc_cli.specs.declared.work.Stop.{Stop}
 use Rattle.rc_cli.specs.declared.work.Stop.TheVariants.{Refused, Fault, NoMemory}
 use Rattle.rc_cli.specs.Command.{Extract, file_name}
-use Rattle.rc_cli.specs.Outcome.{outcome, bytes_line}
+use Rattle.rc_cli.specs.RuleForm.{Rules}
+use Rattle.rc_cli.specs.Layout.{Layout, first_short}
+use Rattle.rc_cli.specs.Outcome.{outcome, extracted, bytes_line}
 use Rattle.rc_cli.specs.Outcome as course
 use Rattle.rc_cli.specs.Answers.{Sources, IsReadFault}
 
@@ -26,3 +28,9 @@ abbrev pub IsRefusedBy : List ℕ → Stop → Type 0
 IsRefusedBy expected (Refused line) = line ≡ expected
 IsRefusedBy expected (Fault word) = ⊥
 IsRefusedBy expected NoMemory = Unit {0}
+
+-- a layout gives no text: two of its nets meet; want of memory has no cause
+abbrev pub IsUnextracted : Layout → Rules → Stop → Type 0
+IsUnextracted layout rules (Refused line) = extracted layout rules (first_short layout) ≡ course.Refused line
+IsUnextracted layout rules (Fault word) = ⊥
+IsUnextracted layout rules NoMemory = Unit {0}

@@ -1,12 +1,16 @@
-ghost use Rattle.std.specs.Prelude.{◌≡◌, ◌≤◌, ◌<◌, ◌^◌, List as Bytes, ℕ, Some, length, IsTrue, IfOk, IfErr};
-ghost use Rattle.rc_cli.specs.Outcome.{Done, outcome, bytes_line, form_line as form_line_of};
+ghost use Rattle.std.specs.Prelude.{◌≡◌, ◌≤◌, ◌<◌, ◌^◌, List as Bytes, ℕ, Some, slice_get, [], length, IsTrue, IfOk, IfErr};
+ghost use Rattle.rc_cli.specs.Outcome.{Done, outcome, extracted, bytes_line, form_line as form_line_of, short_line as short_line_of};
+ghost use Rattle.std.specs.Option.{option_map_or};
+ghost use Rattle.rc_cli.specs.Ranges.{IsLength};
+ghost use Rattle.rc_cli.specs.Layout.{linked, first_short as first_short_of};
 ghost use Rattle.rc_cli.specs.Answers.{sources};
-ghost use Rattle.rc_cli.specs.Work.{HasStopped, IsUnread, IsRefusedBy};
+ghost use Rattle.rc_cli.specs.Work.{HasStopped, IsUnread, IsRefusedBy, IsUnextracted};
 ghost use Rattle.rc_cli.specs.declared.work.Stop.TheVariants as stop;
 
 use crate::command::{Extract, FileWord};
-use crate::design::Design;
-use crate::line::form_line;
+use crate::design::{Design, Wire};
+use crate::layout::{Short, first_short};
+use crate::line::{form_line, short_line};
 use crate::rules::Rules;
 use crate::tech::Tech;
 use rc_fixed::{List, NoMemory, Text};
@@ -79,6 +83,47 @@ fn read_text<F: Files>(
     }
 }
 
+/// The name of a net by its number, nothing where there is no such net.
+fn name_of<'a>(wires: &[Wire<'a>], number: u32) -> &'a [u8]
+    ensures { result.now ≡ option_map_or (λ wire. wire.name) (slice_get wires.now number) [] }
+{
+    match wires.get(number as usize) {
+        Some(wire) => wire.name(),
+        None => b"",
+    }
+}
+
+/// The refusal of two nets that meet.
+fn refused_short(alloc: Global, tech: &Tech<'_>, design: &Design<'_>, short: &Short) -> Stop
+    ensures { IsRefusedBy (short_line_of (linked tech.now design.now) short.now) result }
+{
+    let first = name_of(design.wires(), short.first());
+    let second = name_of(design.wires(), short.second());
+    match short_line(alloc, first, second, tech.layer(), short.corner()) {
+        Ok(line) => Stop::Refused(line),
+        Err(NoMemory) => Stop::NoMemory,
+    }
+}
+
+/// Extracts a layout without shorts, and gives its text.
+fn extract(
+    alloc: Global,
+    tech: &Tech<'_>,
+    design: &Design<'_>,
+    rules: &Rules,
+) -> Result<Text, Stop>
+    requires width { IsLength tech.now.width }
+    requires few { length design.now.wires ≤ 16 }
+    ensures text { IfOk result (λ text. extracted (linked tech.now design.now) rules.now (first_short_of (linked tech.now design.now)) ≡ Done text) }
+    ensures stopped { IfErr result (IsUnextracted (linked tech.now design.now) rules.now) }
+{
+    let _rules = rules;
+    if let Some(short) = first_short(tech.width(), design.wires()) {
+        return Err(refused_short(alloc, tech, design, &short));
+    }
+    Err(Stop::NoMemory)
+}
+
 /// Reads the files in the order of work, and gives the text that they come to.
 pub fn work<F: Files>(alloc: Global, files: &mut F, asked: &Extract<'_>) -> Result<Text, Stop>
     ensures text { IfOk result (λ text. IsTrue (F.tells files.old) → outcome (F.text files.old) asked.now ≡ Done text) }
@@ -99,7 +144,7 @@ pub fn work<F: Files>(alloc: Global, files: &mut F, asked: &Extract<'_>) -> Resu
         Ok(text) => text,
         Err(why) => return Err(why),
     };
-    let _design = match Design::read(alloc, tech.layer(), def.items()) {
+    let design = match Design::read(alloc, tech.layer(), def.items()) {
         Ok(Some(design)) => design,
         Ok(None) => return Err(refused_form(alloc, name)),
         Err(NoMemory) => return Err(Stop::NoMemory),
@@ -111,10 +156,10 @@ pub fn work<F: Files>(alloc: Global, files: &mut F, asked: &Extract<'_>) -> Resu
         Ok(text) => text,
         Err(why) => return Err(why),
     };
-    let _rules = match Rules::read(alloc, tech.layer(), rules.items()) {
+    let rules = match Rules::read(alloc, tech.layer(), rules.items()) {
         Ok(Some(rules)) => rules,
         Ok(None) => return Err(refused_form(alloc, name)),
         Err(NoMemory) => return Err(Stop::NoMemory),
     };
-    Err(Stop::NoMemory)
+    extract(alloc, &tech, &design, &rules)
 }

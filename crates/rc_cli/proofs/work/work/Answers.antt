@@ -6,7 +6,8 @@ use Rattle.rc_cli.specs.Layout.{linked}
 use Rattle.rc_cli.specs.Answers.{sources}
 use Rattle.rc_cli.specs.Outcome.{most_bytes}
 use Rattle.rc_cli.specs.declared.command.FileWord.TheVariants.{Rules, Def, Lef}
-use Rattle.rc_cli.proofs.Courses.{unread, unformed, since, found-since, has-technology, has-layout, technology-refuses, layout-refuses, inputs-refuses}
+use Rattle.rc_cli.proofs.Courses.{unread, unformed, since, found-since, has-technology, has-layout, technology-refuses, layout-refuses, inputs-refuses, outcome-extracted, told-text, told-stop}
+use Rattle.rc_cli.proofs.Sized.{tech_width, few_wires}
 use Rattle.rc_cli.proofs.work.work.Goals as goal
 
 pub returns-in-Err-clause-stopped : goal.returns-in-Err-clause-stopped
@@ -82,3 +83,51 @@ returns-in-Ok-None-read-clause-stopped g c =
     (c.in-Ok-read_text.ensures.tells ∙ c.in-Ok.ensures.tells) (λ n. c.in-Ok-read_text.ensures.same n ∙ c.in-Ok.ensures.same n) c.in-Ok-read_text-2.ensures.whole)
     c.in-Ok-read_text-2.ensures.short (sym none) (inputs-refuses tells texts c.args.asked.now c.name-name-3.result.now (linked c.in-Some.tech c.in-Ok-Some.design) rest done c.name-name-3.ensures)
     c.refused_form-in-Ok-None-read.ensures
+
+pub extract-requires-clause-width : goal.extract-requires-clause-width
+extract-requires-clause-width g c = tech_width c.in-Ok.text c.in-Some.tech (ap tech_of (sym c.items.ensures) ∙ (sym c.read.ensures ∙ c.in-Some.is))
+
+pub extract-requires-clause-few : goal.extract-requires-clause-few
+extract-requires-clause-few g c =
+    let read = rw (c.in-Ok-Some.field-0-is, c.layer.ensures, c.items-2.ensures) at c.in-Ok-Some.ensures in
+    few_wires c.in-Some.tech.layer c.in-Ok-read_text.text c.in-Ok-Some.design (sym read)
+
+pub returns-clause-text : goal.returns-clause-text
+returns-clause-text g c =
+    let tells = g.F.Files.tells c.args.files.now in
+    let texts = g.F.Files.text c.args.files.now in
+    let left : ℕ = most_bytes - c.len.result in
+    let before = has-technology tells texts c.args.asked.now c.name-name.result.now c.in-Ok.text c.in-Some.tech left c.name-name.ensures c.in-Ok.ensures.whole
+    c.in-Ok.ensures.short (ap (λ n. most_bytes - n) c.len.ensures) (ap tech_of (sym c.items.ensures) ∙ (sym c.read.ensures ∙ c.in-Some.is)) in
+    let read = rw (c.in-Ok-Some.field-0-is, c.layer.ensures, c.items-2.ensures) at c.in-Ok-Some.ensures in
+    let rest : ℕ = left - c.len-2.result in
+    let found = found-since tells (g.F.Files.tells c.read_text.new.files) texts (g.F.Files.text c.read_text.new.files) c.name-name-2.result.now c.in-Ok-read_text.text
+    c.in-Ok.ensures.tells c.in-Ok.ensures.same c.in-Ok-read_text.ensures.whole in
+    let done = has-layout tells texts c.args.asked.now c.name-name-2.result.now c.in-Ok-read_text.text c.in-Some.tech left rest c.in-Ok-Some.design before
+    c.name-name-2.ensures found c.in-Ok-read_text.ensures.short (ap (λ n. left - n) c.len-2.ensures) (sym read) in
+    let ruled = rw (c.in-Ok-Some-read.field-0-is, c.layer-2.ensures, c.items-3.ensures) at c.in-Ok-Some-read.ensures in
+    let comes = outcome-extracted tells texts c.args.asked.now c.name-name-3.result.now c.in-Ok-read_text-2.text (linked c.in-Some.tech c.in-Ok-Some.design) rest c.in-Ok-Some-read.rules done
+    c.name-name-3.ensures (found-since tells (g.F.Files.tells c.read_text-2.new.files) texts (g.F.Files.text c.read_text-2.new.files) c.name-name-3.result.now c.in-Ok-read_text-2.text
+    (c.in-Ok-read_text.ensures.tells ∙ c.in-Ok.ensures.tells) (λ n. c.in-Ok-read_text.ensures.same n ∙ c.in-Ok.ensures.same n) c.in-Ok-read_text-2.ensures.whole)
+    c.in-Ok-read_text-2.ensures.short (sym ruled) in
+    told-text c.extract.result tells texts c.args.asked.now (linked c.in-Some.tech c.in-Ok-Some.design) c.in-Ok-Some-read.rules comes c.extract.ensures.text
+
+pub returns-clause-stopped : goal.returns-clause-stopped
+returns-clause-stopped g c =
+    let tells = g.F.Files.tells c.args.files.now in
+    let texts = g.F.Files.text c.args.files.now in
+    let left : ℕ = most_bytes - c.len.result in
+    let before = has-technology tells texts c.args.asked.now c.name-name.result.now c.in-Ok.text c.in-Some.tech left c.name-name.ensures c.in-Ok.ensures.whole
+    c.in-Ok.ensures.short (ap (λ n. most_bytes - n) c.len.ensures) (ap tech_of (sym c.items.ensures) ∙ (sym c.read.ensures ∙ c.in-Some.is)) in
+    let read = rw (c.in-Ok-Some.field-0-is, c.layer.ensures, c.items-2.ensures) at c.in-Ok-Some.ensures in
+    let rest : ℕ = left - c.len-2.result in
+    let found = found-since tells (g.F.Files.tells c.read_text.new.files) texts (g.F.Files.text c.read_text.new.files) c.name-name-2.result.now c.in-Ok-read_text.text
+    c.in-Ok.ensures.tells c.in-Ok.ensures.same c.in-Ok-read_text.ensures.whole in
+    let done = has-layout tells texts c.args.asked.now c.name-name-2.result.now c.in-Ok-read_text.text c.in-Some.tech left rest c.in-Ok-Some.design before
+    c.name-name-2.ensures found c.in-Ok-read_text.ensures.short (ap (λ n. left - n) c.len-2.ensures) (sym read) in
+    let ruled = rw (c.in-Ok-Some-read.field-0-is, c.layer-2.ensures, c.items-3.ensures) at c.in-Ok-Some-read.ensures in
+    let comes = outcome-extracted tells texts c.args.asked.now c.name-name-3.result.now c.in-Ok-read_text-2.text (linked c.in-Some.tech c.in-Ok-Some.design) rest c.in-Ok-Some-read.rules done
+    c.name-name-3.ensures (found-since tells (g.F.Files.tells c.read_text-2.new.files) texts (g.F.Files.text c.read_text-2.new.files) c.name-name-3.result.now c.in-Ok-read_text-2.text
+    (c.in-Ok-read_text.ensures.tells ∙ c.in-Ok.ensures.tells) (λ n. c.in-Ok-read_text.ensures.same n ∙ c.in-Ok.ensures.same n) c.in-Ok-read_text-2.ensures.whole)
+    c.in-Ok-read_text-2.ensures.short (sym ruled) in
+    told-stop c.extract.result _ c.args.asked.now (linked c.in-Some.tech c.in-Ok-Some.design) c.in-Ok-Some-read.rules comes c.extract.ensures.stopped
