@@ -1,17 +1,17 @@
 -- The rectangle of a wire, and the short of two rectangles.
-use Rattle.std.proofs.Common.{◌≡◌, ◌≤◌, ◌/◌, ◌-◌, ℕ, ℤ, pos, Bool, true, false, List, [], ◌∷◌, length, get_or, map, drop, Option, Some, None, cond, refl, ap, sym, ◌∙◌, arith}
-use Rattle.std.specs.Prelude.{◌≤ℤ◌, ◌<ℤ◌, ◌+ℤ◌, ◌-ℤ◌, IsTrue}
+use Rattle.std.proofs.Common.{◌≡◌, ◌≤◌, ◌/◌, ◌-◌, ℕ, ℤ, pos, Bool, true, false, List, [], ◌∷◌, length, get_or, map, drop, Some, None, cond, refl, ap, sym, ◌∙◌, arith}
+use Rattle.std.specs.Prelude.{◌+ℤ◌, ◌-ℤ◌}
 use Rattle.std.specs.Int.{int_max, int_min}
 use Rattle.std.proofs.lemmas.Int.{ints, clamps}
-use Rattle.std.proofs.lemmas.Bool.{and_parts, and_from}
+use Rattle.std.proofs.lemmas.Bool.{and_from}
 use Rattle.rc_geom.specs.declared.rect.Pt.{Pt}
 use Rattle.rc_geom.specs.declared.rect.Rect.{Rect}
-use Rattle.rc_geom.specs.Rects.{touches, common_part, has_points, IsApart, IsLowestCommon, IsNearRect}
-use Rattle.rc_geom.proofs.Bounds.{touched, touches_from, le_tells, le_passes}
+use Rattle.rc_geom.specs.Rects.{common_part, has_points, IsApart, IsLowestCommon, IsNearRect}
+use Rattle.rc_geom.proofs.Bounds.{touched, le_passes}
 use Rattle.rc_geom.proofs.Commons.{lowest_common}
 use Rattle.rc_cli.specs.DesignForm.{Wire}
 use Rattle.rc_cli.specs.Ranges.{IsLength, IsWire}
-use Rattle.rc_cli.specs.Layout.{Short, wire_rect, short_of, hull, hull_of}
+use Rattle.rc_cli.specs.Layout.{wire_rect, short_of, hull, hull_of}
 
 pub near_rect : (width : ℕ) (wire : Wire) → IsLength width → IsWire wire → IsNearRect (wire_rect width wire)
 near_rect width wire length is =

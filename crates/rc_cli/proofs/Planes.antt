@@ -14,7 +14,7 @@ use Rattle.rc_geom.specs.Rects.{covers}
 use Rattle.rc_geom.specs.Plane.{Metal, least_of, next_owner, owner, plane_of}
 use Rattle.rc_cli.specs.DesignForm.{Wire}
 use Rattle.rc_cli.specs.Ranges.{IsWire}
-use Rattle.rc_cli.specs.Layout.{Layout, wire_rect, nearest_node, plane}
+use Rattle.rc_cli.specs.Layout.{wire_rect, nearest_node, plane}
 use Rattle.rc_cli.specs.Shapes.{IsPart, tile_of}
 use Rattle.rc_cli.proofs.Nodes.{nodes_are_ends}
 

@@ -11,7 +11,7 @@ use Rattle.rc_geom.specs.Rects.{covers}
 use Rattle.rc_geom.specs.Split.{middle, IsCoordinate as IsNearCoordinate}
 use Rattle.rc_geom.proofs.Bounds.{covered, covers_from}
 use Rattle.rc_cli.specs.DesignForm.{Wire}
-use Rattle.rc_cli.specs.Ranges.{IsCoordinate, IsLength, IsWire}
+use Rattle.rc_cli.specs.Ranges.{IsCoordinate, IsWire}
 use Rattle.rc_cli.specs.Layout.{wire_rect, is_before, lower_end, upper_end, along, nearest_node}
 use Rattle.rc_cli.specs.Shapes.{left_of, right_of, part_below, part_above, IsPart}
 use Rattle.rc_cli.proofs.Nodes.{nodes_are_ends}

@@ -1,4 +1,4 @@
-use Rattle.std.proofs.Common.{◌<◌, ◌≤◌, map, length, ap, sym, ◌∙◌, arith, rules}
+use Rattle.std.proofs.Common.{◌<◌, ◌≤◌, map, length, sym, ◌∙◌, arith, rules}
 use Rattle.std.specs.List.{enumerate_from}
 use Rattle.rc_cli.specs.Layout.{wire_rect, short_of}
 use Rattle.rc_cli.proofs.Hits.{numbered_from_0_has}
