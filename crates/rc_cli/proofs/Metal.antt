@@ -3,6 +3,7 @@ use Rattle.std.proofs.Common.{◌≡◌, ◌≤◌, ◌/◌, ◌-◌, ℕ, ℤ, 
 use Rattle.std.specs.Prelude.{◌+ℤ◌, ◌-ℤ◌}
 use Rattle.std.specs.Int.{int_max, int_min}
 use Rattle.std.proofs.lemmas.Int.{ints, clamps}
+use Rattle.std.proofs.lemmas.Option.{same_Some}
 use Rattle.std.proofs.lemmas.Bool.{and_from}
 use Rattle.rc_geom.specs.declared.rect.Pt.{Pt}
 use Rattle.rc_geom.specs.declared.rect.Rect.{Rect}
@@ -11,7 +12,7 @@ use Rattle.rc_geom.proofs.Bounds.{touched, le_passes}
 use Rattle.rc_geom.proofs.Commons.{lowest_common}
 use Rattle.rc_cli.specs.DesignForm.{Wire}
 use Rattle.rc_cli.specs.Ranges.{IsLength, IsWire}
-use Rattle.rc_cli.specs.Layout.{wire_rect, short_of, hull, hull_of}
+use Rattle.rc_cli.specs.Layout.{Short, wire_rect, short_of, hull, hull_of}
 
 pub near_rect : (width : ℕ) (wire : Wire) → IsLength width → IsWire wire → IsNearRect (wire_rect width wire)
 near_rect width wire length is =
@@ -106,3 +107,14 @@ short_is i j a b p low =
     let y : p.y ≡ y0 = omega (arith, ints, clamps) in
     let same : p ≡ corner = pt_is p x0 y0 x y in
     ap (λ (p : Pt). Some (record { first = i; second = j; corner = p })) same ∙ sym (short_when i j a b true meet)
+
+-- a short names the two nets that it was made of
+nets_by : (i j : ℕ) (p : Pt) (short : Short) (meets : Bool) → Some short ≡ cond meets (Some (record { first = i; second = j; corner = p })) None → (short.first ≡ i) × (short.second ≡ j)
+nets_by i j p short true is =
+    let found : Short = record { first = i; second = j; corner = p } in
+    let same : short ≡ found = same_Some _ _ is in
+    (ap (λ (s : Short). s.first) same, ap (λ (s : Short). s.second) same)
+nets_by i j p short false is = cc
+
+pub nets_of_short : (i j : ℕ) (a b : Rect) (short : Short) → Some short ≡ short_of (i, a) (j, b) → (short.first ≡ i) × (short.second ≡ j)
+nets_of_short i j a b short is = nets_by i j (pt (int_max a.x0 b.x0) (int_max a.y0 b.y0)) short (has_points (common_part a b)) is

@@ -1,5 +1,5 @@
 //! The metal of a layout of straight wires on one layer: its shapes and its shorts.
-ghost use Rattle.std.specs.Prelude.{◌≡◌, ◌≤◌, ◌<◌, ◌^◌, ◌+ℤ◌, ◌-ℤ◌, ℕ, pos, List as Elements, map, length, All, IfOk};
+ghost use Rattle.std.specs.Prelude.{◌≡◌, ◌≤◌, ◌<◌, ◌^◌, ◌+ℤ◌, ◌-ℤ◌, ℕ, pos, List as Elements, map, length, All, IfOk, IfSome};
 ghost use Rattle.std.specs.Int.{int_min, int_max};
 ghost use Rattle.std.specs.Ordering.{int_eq};
 ghost use Rattle.rc_geom.specs.Rects.{IsNearRect};
@@ -264,7 +264,8 @@ fn short_between(first: u32, earlier: Rect, second: u32, later: Rect) -> Option<
 fn short_with(width: u32, wires: &[Wire<'_>], second: u32, later: Rect) -> Option<Short>
     requires width { IsLength width }
     requires within { second ≤ length wires.now }
-    ensures { result ≡ first_with (map (wire_rect_of width) wires.now) second later }
+    ensures is { result ≡ first_with (map (wire_rect_of width) wires.now) second later }
+    ensures within { IfSome result (λ short. (short.first < second) × (short.second ≡ second)) }
 {
     for first in 0..second {
         let earlier = wire_rect(width, &wires[first as usize]);
@@ -280,7 +281,8 @@ fn short_with(width: u32, wires: &[Wire<'_>], second: u32, later: Rect) -> Optio
 pub fn first_short(width: u32, wires: &[Wire<'_>]) -> Option<Short>
     requires width { IsLength width }
     requires few { length wires.now < 2 ^ 32 }
-    ensures { (design layer : Elements ℕ) → result ≡ first_short_of (record { design = design; layer = layer; width = width; wires = wires.now }) }
+    ensures is { (design layer : Elements ℕ) → result ≡ first_short_of (record { design = design; layer = layer; width = width; wires = wires.now }) }
+    ensures within { IfSome result (λ short. (short.first < short.second) × (short.second < length wires.now)) }
 {
     for second in 0..wires.len() as u32 {
         let later = wire_rect(width, &wires[second as usize]);
