@@ -3,6 +3,7 @@
 
 mod command;
 mod design;
+mod gathered;
 mod laws;
 mod line;
 mod number;

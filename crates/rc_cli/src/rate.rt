@@ -2,7 +2,7 @@
 
 ghost use Rattle.std.specs.Prelude.{◌≡◌, ◌≤◌, ◌<◌, ◌*◌, ◌+◌, ◌^◌, ℕ, length, slice_index, nat_le, position, All};
 ghost use Rattle.std.specs.Option.{ForSome};
-ghost use Rattle.rc_cli.specs.Ranges.{IsNumber};
+ghost use Rattle.rc_cli.specs.Ranges.{IsNumber, IsTable};
 ghost use Rattle.rc_cli.specs.Rate.{per_unit as per_unit_of, width_row as width_row_of, row_of, distance_column as distance_column_of, numbers_at as numbers_at_of, rates, unit_resistance as unit_resistance_of};
 
 use crate::rules::Rules;
@@ -67,6 +67,7 @@ fn numbers_at(rules: &Rules, row: &[u64], column: Option<usize>) -> (u64, u64)
 }
 
 /// The rules of a layer as what the faces of layer 0 are rated by.
+#[derive(Debug, Drop)]
 pub struct Rater<'r> {
     rules: &'r Rules,
 }
@@ -118,6 +119,7 @@ impl<'r> FaceRates for Rater<'r> {
 pub fn unit_resistance(rules: &Rules, width: u32) -> u128
     ensures is { result ≡ unit_resistance_of rules.now width }
     ensures small { result ≤ 10 ^ 17 }
+    ensures table { IsTable rules.now }
 {
     per_unit(rules.resistances()[width_row(rules, width)], UNITS)
 }
