@@ -17,3 +17,4 @@ pub mod Work
 pub mod Forms
 pub mod Laws
 pub mod Example
+pub mod Gathered

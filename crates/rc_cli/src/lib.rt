@@ -3,10 +3,13 @@
 
 mod command;
 mod design;
+mod gathered;
 mod laws;
 mod layout;
 mod line;
 mod number;
+mod parasitics;
+mod rate;
 mod rules;
 mod tech;
 mod top;
