@@ -6,6 +6,8 @@ mod design;
 mod laws;
 mod line;
 mod number;
+mod parasitics;
+mod rate;
 mod rules;
 mod tech;
 mod top;
