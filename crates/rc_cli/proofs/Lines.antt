@@ -1,5 +1,5 @@
 -- The lines of a text, one behind another.
-use Rattle.std.proofs.Common.{◌≡◌, ◌+◌, ◌<◌, ◌≤◌, ℕ, suc, false, List, [], ◌∷◌, ◌++◌, length, take, get_or, ap, sym, ◌∙◌, arith}
+use Rattle.std.proofs.Common.{◌≡◌, ◌+◌, ◌<◌, ◌≤◌, ℕ, suc, false, List, [], ◌∷◌, ◌++◌, length, take, drop, get_or, ap, sym, ◌∙◌, arith}
 use Rattle.std.specs.Prelude.{◌==◌, codes, map}
 use Rattle.std.specs.Fmt.{decimal}
 use Rattle.std.specs.List.{enumerate_from, flat_map}
@@ -125,14 +125,10 @@ net_text net name total caps resistors front b0 b1 b2 b3 b4 b5 e1 e2 e3 e4 h0 h1
 header_pieces : (front first design quote feed rest : List ℕ) → front ++ first ++ design ++ (quote ++ (feed ++ rest)) ≡ front ++ (first ++ (design ++ quote ++ feed ++ rest))
 header_pieces front first design quote feed rest = simp append_assoc
 
--- what is written first is the header
+-- what is written first is the header: its lines behind the second don't name the design
 pub header_text : (design front : List ℕ) →
-    front ++ codes "*SPEF \"IEEE 1481-1998\"\n*DESIGN \"" ++ design
-    ++ codes "\"\n*DATE \"Thu Jan 1 00:00:00 1970\"\n*VENDOR \"rcx\"\n*PROGRAM \"rcx\"\n*VERSION \"1\"\n*DESIGN_FLOW \"NAME_SCOPE LOCAL\" \"PIN_CAP NONE\"\n*DIVIDER /\n*DELIMITER :\n*BUS_DELIMITER [ ]\n*T_UNIT 1 PS\n*C_UNIT 1 FF\n*R_UNIT 1 OHM\n*L_UNIT 1 HENRY\n"
-    ≡ front ++ lines (header design)
-header_text design front =
-    header_pieces front (codes "*SPEF \"IEEE 1481-1998\"\n*DESIGN \"") design (codes "\"") (10 ∷ [])
-    (codes "*DATE \"Thu Jan 1 00:00:00 1970\"\n*VENDOR \"rcx\"\n*PROGRAM \"rcx\"\n*VERSION \"1\"\n*DESIGN_FLOW \"NAME_SCOPE LOCAL\" \"PIN_CAP NONE\"\n*DIVIDER /\n*DELIMITER :\n*BUS_DELIMITER [ ]\n*T_UNIT 1 PS\n*C_UNIT 1 FF\n*R_UNIT 1 OHM\n*L_UNIT 1 HENRY\n")
+    front ++ codes "*SPEF \"IEEE 1481-1998\"\n*DESIGN \"" ++ design ++ (codes "\"\n" ++ lines (drop 2 (header []))) ≡ front ++ lines (header design)
+header_text design front = header_pieces front (codes "*SPEF \"IEEE 1481-1998\"\n*DESIGN \"") design (codes "\"") (10 ∷ []) (lines (drop 2 (header [])))
 
 three_parts : (some others rest : List (List ℕ)) → lines some ++ lines others ++ lines rest ≡ lines (some ++ others ++ rest)
 three_parts some others rest = sym (lines-append (some ++ others) rest ∙ ap (λ (ls : List ℕ). ls ++ lines rest) (lines-append some others))

@@ -161,7 +161,19 @@ fn put_header(bytes: &mut Vec<u8>, design: &[u8]) -> Result<(), NoMemory>
     bytes.extend_from_slice(b"*SPEF \"IEEE 1481-1998\"\n*DESIGN \"")?;
     bytes.extend_from_slice(design)?;
     bytes.extend_from_slice(
-        b"\"\n*DATE \"Thu Jan 1 00:00:00 1970\"\n*VENDOR \"rcx\"\n*PROGRAM \"rcx\"\n*VERSION \"1\"\n*DESIGN_FLOW \"NAME_SCOPE LOCAL\" \"PIN_CAP NONE\"\n*DIVIDER /\n*DELIMITER :\n*BUS_DELIMITER [ ]\n*T_UNIT 1 PS\n*C_UNIT 1 FF\n*R_UNIT 1 OHM\n*L_UNIT 1 HENRY\n",
+        b"\"\n\
+        *DATE \"Thu Jan 1 00:00:00 1970\"\n\
+        *VENDOR \"rcx\"\n\
+        *PROGRAM \"rcx\"\n\
+        *VERSION \"1\"\n\
+        *DESIGN_FLOW \"NAME_SCOPE LOCAL\" \"PIN_CAP NONE\"\n\
+        *DIVIDER /\n\
+        *DELIMITER :\n\
+        *BUS_DELIMITER [ ]\n\
+        *T_UNIT 1 PS\n\
+        *C_UNIT 1 FF\n\
+        *R_UNIT 1 OHM\n\
+        *L_UNIT 1 HENRY\n",
     )?;
     Ok(())
 }
