@@ -11,6 +11,7 @@ mod number;
 mod parasitics;
 mod rate;
 mod rules;
+mod spef;
 mod tech;
 mod top;
 mod words;
