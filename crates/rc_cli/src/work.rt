@@ -2,6 +2,8 @@ ghost use Rattle.std.specs.Prelude.{◌≡◌, ◌≤◌, ◌<◌, ◌^◌, List
 ghost use Rattle.rc_cli.specs.Outcome.{Done, outcome, extracted, bytes_line, form_line as form_line_of, short_line as short_line_of};
 ghost use Rattle.std.specs.Option.{option_map_or};
 ghost use Rattle.rc_cli.specs.Ranges.{IsLength};
+ghost use Rattle.rc_cli.specs.Parasitics.{extraction};
+ghost use Rattle.rc_cli.specs.SpefText.{spef_text};
 ghost use Rattle.rc_cli.specs.Layout.{linked, first_short as first_short_of};
 ghost use Rattle.rc_cli.specs.Answers.{sources};
 ghost use Rattle.rc_cli.specs.Work.{HasStopped, IsUnread, IsRefusedBy, IsUnextracted};
@@ -9,9 +11,11 @@ ghost use Rattle.rc_cli.specs.declared.work.Stop.TheVariants as stop;
 
 use crate::command::{Extract, FileWord};
 use crate::design::{Design, Wire};
-use crate::layout::{Short, first_short};
+use crate::gathered::extract;
+use crate::layout::{Short, bounds, first_short, tiles};
 use crate::line::{form_line, short_line};
 use crate::rules::Rules;
+use crate::spef::write;
 use crate::tech::Tech;
 use rc_fixed::{List, NoMemory, Text};
 use rc_io::{Files, ReadEnd, read_whole};
@@ -105,8 +109,25 @@ fn refused_short(alloc: Global, tech: &Tech<'_>, design: &Design<'_>, short: &Sh
     }
 }
 
-/// Extracts a layout without shorts, and gives its text.
-fn extract(
+/// The text of a layout without shorts.
+fn text_of(
+    alloc: Global,
+    tech: &Tech<'_>,
+    design: &Design<'_>,
+    rules: &Rules,
+) -> Result<Text, NoMemory>
+    requires width { IsLength tech.now.width }
+    requires few { length design.now.wires ≤ 16 }
+    ensures { IfOk result (λ text. text ≡ spef_text (extraction (linked tech.now design.now) rules.now)) }
+{
+    let tiles = tiles(alloc, tech.width(), design.wires())?;
+    let area = bounds(tech.width(), design.wires());
+    let spef = extract(alloc, tech, design, rules, tiles.items(), &area)?;
+    write(alloc, &spef)
+}
+
+/// What a layout comes to by rules: its text, or the refusal of its first short.
+fn finish(
     alloc: Global,
     tech: &Tech<'_>,
     design: &Design<'_>,
@@ -117,11 +138,13 @@ fn extract(
     ensures text { IfOk result (λ text. extracted (linked tech.now design.now) rules.now (first_short_of (linked tech.now design.now)) ≡ Done text) }
     ensures stopped { IfErr result (IsUnextracted (linked tech.now design.now) rules.now) }
 {
-    let _rules = rules;
     if let Some(short) = first_short(tech.width(), design.wires()) {
         return Err(refused_short(alloc, tech, design, &short));
     }
-    Err(Stop::NoMemory)
+    match text_of(alloc, tech, design, rules) {
+        Ok(text) => Ok(text),
+        Err(NoMemory) => Err(Stop::NoMemory),
+    }
 }
 
 /// Reads the files in the order of work, and gives the text that they come to.
@@ -161,5 +184,5 @@ pub fn work<F: Files>(alloc: Global, files: &mut F, asked: &Extract<'_>) -> Resu
         Ok(None) => return Err(refused_form(alloc, name)),
         Err(NoMemory) => return Err(Stop::NoMemory),
     };
-    extract(alloc, &tech, &design, &rules)
+    finish(alloc, &tech, &design, &rules)
 }

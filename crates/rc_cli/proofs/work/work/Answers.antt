@@ -84,11 +84,11 @@ returns-in-Ok-None-read-clause-stopped g c =
     c.in-Ok-read_text-2.ensures.short (sym none) (inputs-refuses tells texts c.args.asked.now c.name-name-3.result.now (linked c.in-Some.tech c.in-Ok-Some.design) rest done c.name-name-3.ensures)
     c.refused_form-in-Ok-None-read.ensures
 
-pub extract-requires-clause-width : goal.extract-requires-clause-width
-extract-requires-clause-width g c = tech_width c.in-Ok.text c.in-Some.tech (ap tech_of (sym c.items.ensures) ∙ (sym c.read.ensures ∙ c.in-Some.is))
+pub finish-requires-clause-width : goal.finish-requires-clause-width
+finish-requires-clause-width g c = tech_width c.in-Ok.text c.in-Some.tech (ap tech_of (sym c.items.ensures) ∙ (sym c.read.ensures ∙ c.in-Some.is))
 
-pub extract-requires-clause-few : goal.extract-requires-clause-few
-extract-requires-clause-few g c =
+pub finish-requires-clause-few : goal.finish-requires-clause-few
+finish-requires-clause-few g c =
     let read = rw (c.in-Ok-Some.field-0-is, c.layer.ensures, c.items-2.ensures) at c.in-Ok-Some.ensures in
     few_wires c.in-Some.tech.layer c.in-Ok-read_text.text c.in-Ok-Some.design (sym read)
 
@@ -110,7 +110,7 @@ returns-clause-text g c =
     c.name-name-3.ensures (found-since tells (g.F.Files.tells c.read_text-2.new.files) texts (g.F.Files.text c.read_text-2.new.files) c.name-name-3.result.now c.in-Ok-read_text-2.text
     (c.in-Ok-read_text.ensures.tells ∙ c.in-Ok.ensures.tells) (λ n. c.in-Ok-read_text.ensures.same n ∙ c.in-Ok.ensures.same n) c.in-Ok-read_text-2.ensures.whole)
     c.in-Ok-read_text-2.ensures.short (sym ruled) in
-    told-text c.extract.result tells texts c.args.asked.now (linked c.in-Some.tech c.in-Ok-Some.design) c.in-Ok-Some-read.rules comes c.extract.ensures.text
+    told-text c.finish.result tells texts c.args.asked.now (linked c.in-Some.tech c.in-Ok-Some.design) c.in-Ok-Some-read.rules comes c.finish.ensures.text
 
 pub returns-clause-stopped : goal.returns-clause-stopped
 returns-clause-stopped g c =
@@ -130,4 +130,4 @@ returns-clause-stopped g c =
     c.name-name-3.ensures (found-since tells (g.F.Files.tells c.read_text-2.new.files) texts (g.F.Files.text c.read_text-2.new.files) c.name-name-3.result.now c.in-Ok-read_text-2.text
     (c.in-Ok-read_text.ensures.tells ∙ c.in-Ok.ensures.tells) (λ n. c.in-Ok-read_text.ensures.same n ∙ c.in-Ok.ensures.same n) c.in-Ok-read_text-2.ensures.whole)
     c.in-Ok-read_text-2.ensures.short (sym ruled) in
-    told-stop c.extract.result _ c.args.asked.now (linked c.in-Some.tech c.in-Ok-Some.design) c.in-Ok-Some-read.rules comes c.extract.ensures.stopped
+    told-stop c.finish.result _ c.args.asked.now (linked c.in-Some.tech c.in-Ok-Some.design) c.in-Ok-Some-read.rules comes c.finish.ensures.stopped
