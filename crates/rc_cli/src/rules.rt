@@ -1,4 +1,4 @@
-ghost use Rattle.std.specs.Prelude.{◌≡◌, ◌&&◌, ◌+◌, ◌*◌, Some, None, true, length, IfOk, IfSome, MatchOption};
+ghost use Rattle.std.specs.Prelude.{◌≡◌, Some, None, true, length, IfOk, IfSome, MatchOption};
 ghost use Rattle.std.specs.List.{All};
 ghost use Rattle.rc_cli.specs.Phrases.{on, given, list_by};
 ghost use Rattle.rc_cli.specs.Numbers.{length_in_units as length_in_units_of, rule_number as rule_number_of};
@@ -189,15 +189,13 @@ impl Rules {
         let Some(rows) = next_rows(alloc, widths.len(), columns, words)? else {
             return Ok(None);
         };
-        let Some(()) = words.accept("END LAYER ; END RULES ;") else {
-            return Ok(None);
-        };
-        Ok(words.at_end(Rules {
+        let rules = Rules {
             widths,
             distances,
             resistances,
             rows,
-        }))
+        };
+        Ok(words.close("END LAYER ; END RULES ;", rules))
     }
 
     /// The widths that have a row, which rise.

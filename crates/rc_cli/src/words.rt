@@ -2,7 +2,7 @@ ghost use Rattle.std.specs.Prelude.{◌≡◌, ◌<◌, ◌↔◌, [], ◌∷◌
 ghost use Rattle.std.specs.List.{list_all, position_or_len, starts_with};
 ghost use Rattle.std.specs.Str.{bytes_eq};
 ghost use Rattle.rc_cli.specs.Cut.{is_blank as is_blank_byte, is_word_byte as is_word_byte_of, is_plain as is_plain_text, words_of, IsFirstWord};
-ghost use Rattle.rc_cli.specs.Phrases.{after, first_by, read_name, at_end as at_end_of, is_semicolon as is_semicolon_word};
+ghost use Rattle.rc_cli.specs.Phrases.{on, after, first_by, read_name, at_end as at_end_of, is_semicolon as is_semicolon_word};
 ghost use Rattle.rc_cli.specs.Numbers.{length_in_units as length_in_units_of, coordinate as coordinate_of};
 ghost use Rattle.rc_cli.specs.Ranges.{IsCoordinate};
 
@@ -169,5 +169,13 @@ impl<'a> Words<'a> {
             Some(_) => None,
             None => Some(value),
         }
+    }
+
+    /// The value, where these words come next and no word is left after them.
+    pub fn close<T: Drop>(&mut self, front: &str, value: T) -> Option<T>
+        ensures { result ≡ on (after (words_of front.now) self.old) (λ words. at_end_of value words) }
+    {
+        self.accept(front)?;
+        self.at_end(value)
     }
 }

@@ -5,7 +5,9 @@ ghost use Rattle.rc_cli.specs.Work.{HasStopped, IsUnread, IsRefusedBy};
 ghost use Rattle.rc_cli.specs.declared.work.Stop.TheVariants as stop;
 
 use crate::command::{Extract, FileWord};
+use crate::design::Design;
 use crate::line::form_line;
+use crate::rules::Rules;
 use crate::tech::Tech;
 use rc_fixed::{List, NoMemory, Text};
 use rc_io::{Files, ReadEnd, read_whole};
@@ -87,8 +89,32 @@ pub fn work<F: Files>(alloc: Global, files: &mut F, asked: &Extract<'_>) -> Resu
         Ok(text) => text,
         Err(why) => return Err(why),
     };
-    let Some(_tech) = Tech::read(lef.items()) else {
+    let Some(tech) = Tech::read(lef.items()) else {
         return Err(refused_form(alloc, name));
+    };
+    let room = MOST_BYTES - lef.len() as u64;
+
+    let name = asked.name(FileWord::Def);
+    let def = match read_text(alloc, files, name, FileWord::Def, room) {
+        Ok(text) => text,
+        Err(why) => return Err(why),
+    };
+    let _design = match Design::read(alloc, tech.layer(), def.items()) {
+        Ok(Some(design)) => design,
+        Ok(None) => return Err(refused_form(alloc, name)),
+        Err(NoMemory) => return Err(Stop::NoMemory),
+    };
+    let room = room - def.len() as u64;
+
+    let name = asked.name(FileWord::Rules);
+    let rules = match read_text(alloc, files, name, FileWord::Rules, room) {
+        Ok(text) => text,
+        Err(why) => return Err(why),
+    };
+    let _rules = match Rules::read(alloc, tech.layer(), rules.items()) {
+        Ok(Some(rules)) => rules,
+        Ok(None) => return Err(refused_form(alloc, name)),
+        Err(NoMemory) => return Err(Stop::NoMemory),
     };
     Err(Stop::NoMemory)
 }

@@ -10,7 +10,7 @@ use Rattle.rc_geom.specs.Plane.{Metal, Plane}
 use Rattle.rc_geom.specs.Line.{Line, Ray, line_of, square_of, axis_of, is_up}
 use Rattle.rc_geom.specs.Faces.{Face, Seen, is_net, end_of, thickness, sight}
 use Rattle.rc_geom.specs.Rates.{Rates, rate_of}
-use Rattle.rc_geom.specs.Parts.{Part, parts, part_for, node_key, shared_key, foreign}
+use Rattle.rc_geom.specs.Parts.{Part, parts, part_for, node_key, shared_key, foreign_metal}
 use Rattle.rc_geom.proofs.Rays.{end_is, no_face, face_tells, faces_are_thick, sight_tells}
 use Rattle.rc_squares.specs.declared.faces.Face.{Face as FoundFace}
 use Rattle.rc_squares.specs.Found.{face_value, IsBounded}
@@ -84,7 +84,7 @@ face_bounds cap reach plane layer side p face stands least =
     record { thick = thick.0; capped = thick.1; gap = λ s e. (gaps s e).0; within = λ s e. (gaps s e).1 }
 
 -- the parts of a face are those of its rate
-pub parts_stand : (plane : Plane) (rates : Rates ℕ) (layer : ℕ) (side : Side) (p : Pt) (cap reach : ℕ) (face : Face) (rate : ℕ × ℕ) (own shared : List (Part ℕ)) → cap ≡ rates.cap layer → reach ≡ rates.reach layer → Some face ≡ face_on cap reach plane layer side p → rate ≡ rate_of rates plane layer p face → own ≡ part_for rate.0 (node_key face.own) → shared ≡ part_for rate.1 (option_and_then (shared_key face.own) (foreign face.own face.sight)) → own ++ shared ≡ parts_on plane rates layer side p
+pub parts_stand : (plane : Plane) (rates : Rates ℕ) (layer : ℕ) (side : Side) (p : Pt) (cap reach : ℕ) (face : Face) (rate : ℕ × ℕ) (own shared : List (Part ℕ)) → cap ≡ rates.cap layer → reach ≡ rates.reach layer → Some face ≡ face_on cap reach plane layer side p → rate ≡ rate_of rates plane layer p face → own ≡ part_for rate.0 (node_key face.own) → shared ≡ part_for rate.1 (option_and_then (shared_key face.own) (foreign_metal face.own face.sight)) → own ++ shared ≡ parts_on plane rates layer side p
 parts_stand plane rates layer side p cap reach face rate own shared cap_is reach_is stands rate_is own_is shared_is =
     let f : Face → List (Part ℕ) = λ fc. parts fc (rate_of rates plane layer (square_of (axis_of side) (line_at (axis_of side) p) (place_at (axis_of side) p)) fc) in
     let there : Some face ≡ face_on (rates.cap layer) (rates.reach layer) plane layer side p = stands ∙ (ap (λ (c : ℕ). face_on c reach plane layer side p) cap_is ∙ ap (λ (r : ℕ). face_on (rates.cap layer) r plane layer side p) reach_is) in

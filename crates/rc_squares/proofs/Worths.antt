@@ -11,7 +11,7 @@ use Rattle.rc_geom.specs.declared.key.Key.{Key}
 use Rattle.rc_geom.specs.declared.tile.Tile.{Tile}
 use Rattle.rc_geom.specs.declared.tile.Side.{Side}
 use Rattle.rc_geom.specs.Rects.{covers}
-use Rattle.rc_geom.specs.Plane.{Metal, Plane, claims, claimed, lesser, owner, plane_of}
+use Rattle.rc_geom.specs.Plane.{Metal, Plane, claims, next_owner, least_of, owner, plane_of}
 use Rattle.rc_geom.specs.Line.{square_of, axis_of}
 use Rattle.rc_geom.specs.Rates.{Rates, rate_of}
 use Rattle.rc_geom.specs.Parts.{Part, parts, same_key, worth_at}
@@ -88,21 +88,25 @@ metal_has P tiles layer p own all metal = from_owner P tiles layer p own (owner 
 
 -- ---- layers without tiles
 
-unclaimed : (layer : ℕ) (p : Pt) (best : Option Tile) (t : Tile) → eqb t.layer layer ≡ false → claimed layer p best t ≡ best
-unclaimed layer p best t other = ap (λ b. cond (b && covers t.rect p) (Some (lesser best t)) best) other
+unclaimed : (layer : ℕ) (p : Pt) (best : Option Tile) (t : Tile) → eqb t.layer layer ≡ false → next_owner layer p best t ≡ best
+unclaimed layer p best t other = ap (λ b. cond (b && covers t.rect p) (Some (least_of best t)) best) other
 
 no_owner : (tiles : List Tile) (layer : ℕ) (p : Pt) → list_any (λ (t : Tile). eqb t.layer layer) tiles ≡ false → owner tiles layer p ≡ None
 no_owner [] layer p none = refl
 no_owner (t ∷ ts) layer p none =
     let parts = or_parts (eqb t.layer layer) (list_any (λ (u : Tile). eqb u.layer layer) ts) none in
-    ap (λ o. fold (claimed layer p) o ts) (unclaimed layer p None t parts.0) ∙ no_owner ts layer p parts.1
+    ap (λ o. fold (next_owner layer p) o ts) (unclaimed layer p None t parts.0) ∙ no_owner ts layer p parts.1
 
-numbers_neutral : IsNeutral numbers
-numbers_neutral = record { before = λ n. omega arith; after = λ n. omega arith }
+-- every number will do
+abbrev any_number : ℕ → Bool
+any_number _ = true
+
+numbers_neutral : IsNeutral numbers any_number
+numbers_neutral = record { start = refl; closed = λ a b _ _. refl; before = λ n _. omega arith; after = λ n _. omega arith }
 
 pub layer_bare : (worth : ℕ → ℕ) (tiles : List Tile) (rates : Rates ℕ) (layer : ℕ) (key : Key) (axis : ℕ) (r : Rect) (n : ℕ) → list_any (λ (t : Tile). eqb t.layer layer) tiles ≡ false → lines_worth worth (plane_of tiles) rates layer key axis r n ≡ 0
 layer_bare worth tiles rates layer key axis r n none =
-    total_nothing numbers numbers_neutral n _ (λ j _. total_nothing numbers numbers_neutral (extent (first_place axis r) (end_place axis r)) _ (λ k _.
+    total_nothing numbers any_number numbers_neutral n _ (λ j _. total_nothing numbers any_number numbers_neutral (extent (first_place axis r) (end_place axis r)) _ (λ k _.
     square_bare worth (plane_of tiles) rates layer key axis (square_of axis (first_line axis r +ℤ pos j) (first_place axis r +ℤ pos k))
     (ap (option_map {U = Metal} (λ (t : Tile). (t.net, t.node))) (no_owner tiles layer (square_of axis (first_line axis r +ℤ pos j) (first_place axis r +ℤ pos k)) none))))
 

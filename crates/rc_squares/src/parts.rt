@@ -3,7 +3,7 @@ ghost use Rattle.std.specs.Option.{ForSome, option_and_then, option_to_list};
 ghost use Rattle.rc_geom.specs.Rects.{IsNear};
 ghost use Rattle.rc_geom.specs.Plane.{plane_of};
 ghost use Rattle.rc_geom.specs.Rates.{rate_of};
-ghost use Rattle.rc_geom.specs.Parts.{node_key as node_key_of, pair_key as pair_key_of, shared_key as shared_key_of, foreign as foreign_of, part_for as part_for_of};
+ghost use Rattle.rc_geom.specs.Parts.{node_key as node_key_of, pair_key as pair_key_of, shared_key as shared_key_of, foreign_metal as foreign_of, part_for as part_for_of};
 ghost use Rattle.rc_squares.specs.Found.{face_value, part_value, parts_value};
 ghost use Rattle.rc_squares.specs.Sides.{parts_on};
 
@@ -65,7 +65,7 @@ fn shared_key(a: Metal, b: Metal) -> Option<Key>
 }
 
 /// The metal of another net that a face sees.
-fn foreign(own: Metal, sight: Option<Seen>) -> Option<Metal>
+fn foreign_metal(own: Metal, sight: Option<Seen>) -> Option<Metal>
     ensures { result ≡ foreign_of own sight }
 {
     match sight {
@@ -78,7 +78,7 @@ fn foreign(own: Metal, sight: Option<Seen>) -> Option<Metal>
 fn seen_key(face: Face) -> Option<Key>
     ensures { result ≡ option_and_then (shared_key_of face.own) (foreign_of face.own face.sight) }
 {
-    match foreign(face.own, face.sight) {
+    match foreign_metal(face.own, face.sight) {
         Some(metal) => shared_key(face.own, metal),
         None => None,
     }

@@ -1,6 +1,6 @@
 ghost use Rattle.std.specs.Prelude.{◌≡◌, ◌+◌, ◌≤◌, ◌^◌};
 ghost use Rattle.rc_geom.specs.Rects.{covers as covers_of, IsNear};
-ghost use Rattle.rc_geom.specs.Plane.{claims as claims_of, lesser as lesser_of, plane_of};
+ghost use Rattle.rc_geom.specs.Plane.{claims as claims_of, least_of as least, plane_of};
 ghost use Rattle.rc_geom.specs.Line.{axis_of, is_up};
 ghost use Rattle.rc_squares.specs.Sides.{square_at};
 
@@ -24,8 +24,8 @@ fn claims(tile: &Tile, layer: u8, at: Pt) -> bool
 }
 
 /// Of two tiles the one of less rank, the first where they tie.
-fn lesser(best: Option<Tile>, tile: Tile) -> Tile
-    ensures { result ≡ lesser_of best tile }
+fn least_of(best: Option<Tile>, tile: Tile) -> Tile
+    ensures { result ≡ least best tile }
 {
     match best {
         Some(first) => { if tile.rank < first.rank { tile } else { first } }
@@ -41,7 +41,7 @@ pub fn metal_at(tiles: &[Tile], layer: u8, at: Pt) -> Option<Metal>
     let mut best: Option<Tile> = None;
     for tile in tiles {
         if claims(tile, layer, at) {
-            best = Some(lesser(best, *tile));
+            best = Some(least_of(best, *tile));
         }
     }
     best.map(|tile| (tile.net, tile.node))

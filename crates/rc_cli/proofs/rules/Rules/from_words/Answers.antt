@@ -95,19 +95,6 @@ returns-in_default-5 c =
     let none = rw (c.len-3.ensures, c.len-4.ensures, c.in_default-5.is) at c.in_ok-rows.ensures.value in
     rw (c.in-Some.ensures, c.in-Some-accept_from.ensures, widths, wide, c.in-Some-accept.ensures, distances, far, c.in-Some-accept-2.ensures, resistances, alike, c.in-Some-accept-3.ensures, none) refl
 
-pub returns-in_default-accept-4 : goal.returns-in_default-accept-4
-unfolding rules_of_words
-returns-in_default-accept-4 c =
-    let widths = rw c.in-Some-2.is at c.in_ok-widths.ensures.value in
-    let wide = rw c.in-Some-2.is at c.in_ok-widths.ensures.scale in
-    let distances = rw c.in-Some-3.is at c.in_ok-distances.ensures.value in
-    let far = rw c.in-Some-3.is at c.in_ok-distances.ensures.scale in
-    let resistances = rw c.in-Some-4.is at c.in_ok-resistances.ensures.value in
-    let alike : (length c.in-Some-4.resistances == length c.in-Some-2.widths) ≡ true = eq-eqb _ _ (omega (arith, c.len.ensures, c.len-2.ensures, c.if-len.false)) in
-    let rows = rw (c.len-3.ensures, c.len-4.ensures, c.in-Some-5.is) at c.in_ok-rows.ensures.value in
-    let none = rw c.in_default-accept-4.is at c.accept-5.ensures in
-    rw (c.in-Some.ensures, c.in-Some-accept_from.ensures, widths, wide, c.in-Some-accept.ensures, distances, far, c.in-Some-accept-2.ensures, resistances, alike, c.in-Some-accept-3.ensures, rows, none) refl
-
 pub returns : goal.returns
 unfolding rules_of_words
 returns c =
@@ -118,4 +105,4 @@ returns c =
     let resistances = rw c.in-Some-4.is at c.in_ok-resistances.ensures.value in
     let alike : (length c.in-Some-4.resistances == length c.in-Some-2.widths) ≡ true = eq-eqb _ _ (omega (arith, c.len.ensures, c.len-2.ensures, c.if-len.false)) in
     let rows = rw (c.len-3.ensures, c.len-4.ensures, c.in-Some-5.is) at c.in_ok-rows.ensures.value in
-    rw (c.in-Some.ensures, c.in-Some-accept_from.ensures, widths, wide, c.in-Some-accept.ensures, distances, far, c.in-Some-accept-2.ensures, resistances, alike, c.in-Some-accept-3.ensures, rows, c.in-Some-accept-4.ensures) c.at_end.ensures
+    rw (c.in-Some.ensures, c.in-Some-accept_from.ensures, widths, wide, c.in-Some-accept.ensures, distances, far, c.in-Some-accept-2.ensures, resistances, alike, c.in-Some-accept-3.ensures, rows) c.close.ensures
