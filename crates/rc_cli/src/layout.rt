@@ -1,4 +1,4 @@
-//! The metal of a layout of straight wires on one layer: its shapes and its shorts.
+//! The metal of a layout of straight wires on one layer: its shapes, its shorts, its tiles and its bounds.
 ghost use Rattle.std.specs.Prelude.{◌≡◌, ◌≤◌, ◌<◌, ◌^◌, ◌+ℤ◌, ◌-ℤ◌, ℕ, pos, List as Elements, map, length, All, IfOk, IfSome};
 ghost use Rattle.std.specs.Int.{int_min, int_max};
 ghost use Rattle.std.specs.Ordering.{int_eq};
