@@ -1,12 +1,11 @@
 -- How large the amounts of a layout are.
-use Rattle.std.proofs.Common.{⊎_elim, ◌≡◌, ◌≤◌, ◌<◌, ◌+◌, ◌*◌, ◌/◌, ◌^◌, ◌-◌, ℕ, zero, suc, ℤ, pos, negsuc, ◌+ℤ◌, ◌-ℤ◌, ◌≤ℤ◌, ◌<ℤ◌, Bool, true, false, cond, List, [], ◌∷◌, ◌++◌, length, Option, Some, None, refl, ap, sym, ◌∙◌, subst, arith}
-use Rattle.std.specs.Prelude.{slice_index, slice_index_or, option_map, All, min}
+use Rattle.std.proofs.Common.{⊎_elim, ◌≡◌, ◌≤◌, ◌+◌, ◌*◌, ◌^◌, ℕ, zero, suc, ℤ, pos, negsuc, ◌+ℤ◌, ◌≤ℤ◌, ◌<ℤ◌, Bool, true, false, cond, List, [], ◌++◌, length, Option, Some, None, sym, subst, arith}
+use Rattle.std.specs.Prelude.{slice_index, All}
 use Rattle.std.specs.Option.{option_map_or, option_and_then}
-use Rattle.std.proofs.Math.Nat.{mul-le-mul_left, mul-le-mul_right}
+use Rattle.std.proofs.Math.Nat.{mul-le-mul_right}
 use Rattle.std.proofs.lemmas.Int.{ints}
 use Rattle.std.proofs.lemmas.Bool.{cases_lt}
 use Rattle.std.proofs.lemmas.List.{get_or_past}
-use Rattle.std.proofs.lemmas.List.Elements.{All-nil}
 use Rattle.rc_geom.specs.declared.rect.Rect.{Rect}
 use Rattle.rc_geom.specs.declared.key.Key.{Key}
 use Rattle.rc_geom.specs.Rects.{IsNearRect}
@@ -14,12 +13,12 @@ use Rattle.rc_geom.specs.Plane.{Plane}
 use Rattle.rc_geom.specs.Line.{square_of}
 use Rattle.rc_geom.specs.Faces.{Face}
 use Rattle.rc_geom.specs.Rates.{Rates, rate_of}
-use Rattle.rc_geom.specs.Parts.{Part, parts, part_for, node_key, shared_key, foreign_metal, same_key, worth_at}
+use Rattle.rc_geom.specs.Parts.{parts, part_for, node_key, shared_key, foreign_metal, same_key, worth_at}
 use Rattle.rc_geom.specs.Sums.{numbers, total, extent, first_line, end_line, first_place, end_place}
 use Rattle.rc_geom.specs.Extraction.{key_value, value_in, face_of, parts_of}
 use Rattle.rc_geom.proofs.Totals.{total_none, total_suc, extent_is}
 use Rattle.rc_cli.specs.RuleForm.{Rules}
-use Rattle.rc_cli.specs.Ranges.{IsTable, IsNumber, IsRow}
+use Rattle.rc_cli.specs.Ranges.{IsTable, IsNumber}
 use Rattle.rc_cli.specs.Rate.{rates, row_of, width_row, numbers_at, distance_column, face_rate, per_unit}
 
 -- ---- the numbers of a table

@@ -1,49 +1,14 @@
--- Capacitances, appended one after another.
-use Rattle.std.proofs.Common.{◌≡◌, ◌≢◌, ◌<◌, ◌+◌, ℕ, Bool, true, false, cond, List, [], ◌∷◌, ◌++◌, length, take, Option, Some, None, refl, ap, sym, ◌∙◌, arith}
-use Rattle.std.specs.Prelude.{◌==◌, not, nat_lt, map, filter, option_map, slice_index_or}
-use Rattle.std.specs.List.{cons_option, filter_map, flat_map, enumerate_from}
+-- The couplings of a node net by net, and what is made of each wire.
+use Rattle.std.proofs.Common.{◌≡◌, ◌<◌, ◌+◌, ℕ, Bool, true, false, cond, List, [], ◌∷◌, ◌++◌, length, take, Option, ap, sym, ◌∙◌, arith}
+use Rattle.std.specs.Prelude.{◌==◌, not, map, filter, slice_index_or}
+use Rattle.std.specs.List.{filter_map, enumerate_from}
 use Rattle.std.proofs.lemmas.List.{append_assoc, append-nil, map-append, take_more, take_all}
 use Rattle.std.proofs.lemmas.Grind.{flat_map-append}
 use Rattle.std.proofs.lemmas.List.Elements.{filter_map-append, filter-append}
 use Rattle.std.proofs.lemmas.List.FromFn.{length-enumerate_from, get_or-enumerate_from}
-use Rattle.std.proofs.lemmas.Option.{same_Some}
-use Rattle.rc_geom.specs.declared.key.Key.{Key}
 use Rattle.rc_geom.specs.Plane.{Metal}
 use Rattle.rc_cli.specs.DesignForm.{Wire}
-use Rattle.rc_cli.specs.RuleForm.{Rules}
-use Rattle.rc_cli.specs.Layout.{Layout}
-use Rattle.rc_cli.specs.Parasitics.{End, Cap, end_of, cap_for, value_of, count_of, node_numbers, nodes_of}
-use Rattle.rc_cli.specs.Gathered.{amount_of}
-
-abbrev cap_between : Metal → Option Metal → ℕ → Cap
-cap_between a b amount = record { from = end_of a; to = option_map end_of b; amount = amount }
-
-cap_by_some : (stands : Bool) (a : Metal) (b : Option Metal) (value v : ℕ) → cond stands (Some value) None ≡ Some v → cond stands (Some (cap_between a b value)) None ≡ Some (cap_between a b v)
-cap_by_some true a b value v h = ap (λ (n : ℕ). Some (cap_between a b n)) (same_Some value v h)
-cap_by_some false a b value v h = cc
-
-cap_by_none : (stands : Bool) (a : Metal) (b : Option Metal) (value : ℕ) → cond stands (Some value) None ≡ None → cond stands (Some (cap_between a b value)) None ≡ None
-cap_by_none true a b value h = cc
-cap_by_none false a b value h = refl
-
--- the capacitance of a key that has an amount, and of one that has none
-pub cap_some : (layout : Layout) (rules : Rules) (a : Metal) (b : Option Metal) (key : Key) (v : ℕ) → amount_of layout rules key ≡ Some v → Some (cap_between a b v) ≡ cap_for layout rules a b key
-cap_some layout rules a b key v h = sym (cap_by_some (nat_lt 0 (count_of layout rules key)) a b (value_of layout rules key) v h)
-
-pub cap_none : (layout : Layout) (rules : Rules) (a : Metal) (b : Option Metal) (key : Key) → amount_of layout rules key ≡ None → None ≡ cap_for layout rules a b key
-cap_none layout rules a b key h = sym (cap_by_none (nat_lt 0 (count_of layout rules key)) a b (value_of layout rules key) h)
-
--- two capacitances, each where there is one, behind others
-pub two_more : (caps : List Cap) (a b : Option Cap) → (caps ++ cons_option a []) ++ cons_option b [] ≡ caps ++ cons_option a (cons_option b [])
-two_more caps None b = ap (λ (xs : List Cap). xs ++ cons_option b []) (append-nil caps)
-two_more caps (Some a) b = append_assoc caps (a ∷ []) (cons_option b [])
-
--- the capacitances of a net one after another
-pub all_caps : (caps0 caps1 caps2 caps3 caps4 : List Cap) (a b : Option Cap) (first second : List Cap) → caps0 ≡ [] → caps1 ≡ caps0 ++ cons_option a [] → caps2 ≡ caps1 ++ cons_option b [] → caps3 ≡ caps2 ++ first → caps4 ≡ caps3 ++ second →
-    caps4 ≡ cons_option a (cons_option b []) ++ (first ++ (second ++ []))
-all_caps caps0 caps1 caps2 caps3 caps4 a b first second h0 h1 h2 h3 h4 =
-    let front : caps2 ≡ cons_option a (cons_option b []) = h2 ∙ (ap (λ (cs : List Cap). cs ++ cons_option b []) h1 ∙ (two_more caps0 a b ∙ ap (λ (cs : List Cap). cs ++ cons_option a (cons_option b [])) h0)) in
-    h4 ∙ (ap (λ (cs : List Cap). cs ++ second) h3 ∙ (append_assoc caps2 first second ∙ (ap (λ (cs : List Cap). cs ++ (first ++ second)) front ∙ ap (λ (cs : List Cap). cons_option a (cons_option b []) ++ (first ++ cs)) (sym (append-nil second)))))
+use Rattle.rc_cli.specs.Parasitics.{Cap, node_numbers, nodes_of}
 
 -- ---- the couplings of a node, net by net
 
@@ -95,7 +60,7 @@ other_net find wires k net before caps after less other so_far is =
     let next = next_numbered wires k less in
     let front = take k (enumerate_from 0 wires) in
     let more : first_couplings find (take (k + 1) (enumerate_from 0 wires)) net ≡ first_couplings find front net ++ filter_map find ((k, 1) ∷ (k, 2) ∷ []) =
-        ap (λ (ws : List (ℕ × Wire)). first_couplings find ws net) next.1 ∙ (append_couplings find front ((k, next.0) ∷ []) net ∙ ap (λ (cs : List Cap). first_couplings find front net ++ cs) (one_net find (k, next.0) net false other)) in
+    ap (λ (ws : List (ℕ × Wire)). first_couplings find ws net) next.1 ∙ (append_couplings find front ((k, next.0) ∷ []) net ∙ ap (λ (cs : List Cap). first_couplings find front net ++ cs) (one_net find (k, next.0) net false other)) in
     is ∙ (ap (λ (cs : List Cap). cs ++ filter_map find ((k, 1) ∷ (k, 2) ∷ [])) so_far
     ∙ (append_assoc before (first_couplings find front net) (filter_map find ((k, 1) ∷ (k, 2) ∷ [])) ∙ ap (λ (cs : List Cap). before ++ cs) (sym more)))
 
@@ -105,13 +70,10 @@ own_net find wires k net before caps less same so_far =
     let next = next_numbered wires k less in
     let front = take k (enumerate_from 0 wires) in
     let more : first_couplings find (take (k + 1) (enumerate_from 0 wires)) net ≡ first_couplings find front net =
-        ap (λ (ws : List (ℕ × Wire)). first_couplings find ws net) next.1 ∙ (append_couplings find front ((k, next.0) ∷ []) net ∙ (ap (λ (cs : List Cap). first_couplings find front net ++ cs) (one_net find (k, next.0) net true same) ∙ append-nil (first_couplings find front net))) in
+    ap (λ (ws : List (ℕ × Wire)). first_couplings find ws net) next.1 ∙ (append_couplings find front ((k, next.0) ∷ []) net ∙ (ap (λ (cs : List Cap). first_couplings find front net ++ cs) (one_net find (k, next.0) net true same) ∙ append-nil (first_couplings find front net))) in
     so_far ∙ ap (λ (cs : List Cap). before ++ cs) (sym more)
 
 pub all_nets : (find : Metal → Option Cap) (wires : List Wire) (k net : ℕ) (before caps : List Cap) → k ≡ length wires → caps ≡ before ++ first_couplings find (take k (enumerate_from 0 wires)) net →
     caps ≡ before ++ first_couplings find (enumerate_from 0 wires) net
 all_nets find wires k net before caps whole so_far =
     so_far ∙ ap (λ (ws : List (ℕ × Wire)). before ++ first_couplings find ws net) (take_all k (enumerate_from 0 wires) (omega (arith, whole, length-enumerate_from 0 wires)))
-
-pub no_nets : (find : Metal → Option Cap) (wires : List Wire) (net : ℕ) (before : List Cap) → before ≡ before ++ first_couplings find (take 0 (enumerate_from 0 wires)) net
-no_nets find wires net before = sym (append-nil before)

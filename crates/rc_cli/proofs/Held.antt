@@ -1,12 +1,11 @@
 -- The sums of all keys as a design's amounts.
-use Rattle.std.proofs.Common.{◌≡◌, ◌≤◌, ℕ, true, false, cond, List, [], ◌∷◌, length, Option, Some, None, refl, ap, sym, ◌∙◌, subst, arith}
+use Rattle.std.proofs.Common.{◌≡◌, ◌≤◌, ℕ, true, false, cond, List, [], ◌∷◌, length, Option, Some, None, refl, ap, ◌∙◌, subst, arith}
 use Rattle.std.specs.Prelude.{IfSome, nat_lt, map, option_map}
 use Rattle.std.specs.Option.{option_map_or}
 use Rattle.std.specs.List.{enumerate_from}
 use Rattle.std.proofs.lemmas.Bool.Decides.{nat_tests}
 use Rattle.rc_geom.specs.declared.rect.Rect.{Rect}
 use Rattle.rc_geom.specs.Plane.{Plane}
-use Rattle.rc_geom.specs.Rates.{Rates}
 use Rattle.rc_squares.specs.declared.entries.Entry.{Entry}
 use Rattle.rc_squares.specs.Tallies.{KeyOrder}
 use Rattle.rc_squares.specs.Entries.{entry_at, AreSums}

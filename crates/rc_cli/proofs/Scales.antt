@@ -1,5 +1,5 @@
 -- The place in a scale that a length falls to, and the numbers of the table there.
-use Rattle.std.proofs.Common.{◌≡◌, ◌<◌, ◌-◌, ◌+◌, ℕ, Bool, true, false, cond, ltb, List, length, Option, Some, None, refl, ap, sym, ◌∙◌, arith}
+use Rattle.std.proofs.Common.{◌≡◌, ◌<◌, ◌-◌, ℕ, Bool, cond, ltb, List, length, Some, None, arith}
 use Rattle.std.specs.Prelude.{min, position}
 use Rattle.std.specs.List.{position_or_len}
 use Rattle.std.proofs.lemmas.Bool.Decides.{nat_tests}

@@ -1,5 +1,5 @@
 -- How large the sum of a net's capacitances is.
-use Rattle.std.proofs.Common.{◌≡◌, ◌≤◌, ◌<◌, ◌+◌, ◌*◌, ◌^◌, ℕ, zero, suc, Bool, true, false, cond, List, [], ◌∷◌, ◌++◌, length, Option, Some, None, refl, ap, sym, ◌∙◌, arith}
+use Rattle.std.proofs.Common.{◌≡◌, ◌≤◌, ◌<◌, ◌+◌, ◌*◌, ◌^◌, ℕ, suc, Bool, true, false, cond, List, [], ◌∷◌, ◌++◌, length, Option, Some, None, arith}
 use Rattle.std.specs.Prelude.{◌==◌, not, nat_lt, filter}
 use Rattle.std.specs.List.{cons_option, filter_map, sum_by, enumerate_from}
 use Rattle.std.proofs.Math.Nat.{mul-le-mul_right}
@@ -14,7 +14,7 @@ use Rattle.rc_cli.specs.DesignForm.{Wire}
 use Rattle.rc_cli.specs.RuleForm.{Rules}
 use Rattle.rc_cli.specs.Ranges.{IsTable}
 use Rattle.rc_cli.specs.Layout.{Layout, plane, bounds}
-use Rattle.rc_cli.specs.Parasitics.{Cap, end_of, cap_for, value_of, count_of, nodes_of, other_nodes, ground_caps, couplings}
+use Rattle.rc_cli.specs.Parasitics.{Cap, cap_for, value_of, count_of, nodes_of, other_nodes, ground_caps, couplings}
 use Rattle.rc_cli.proofs.Amounts.{value_small}
 
 abbrev sum_of : List Cap → ℕ
@@ -72,6 +72,12 @@ pub total_fits : (layout : Layout) (rules : Rules) (net : ℕ × Wire) → lengt
 total_fits layout rules net few near table =
     let f : ℕ → List Cap = λ node. filter_map (λ b. cap_for layout rules (net.0, node) (Some b) (pair_key (net.0, node) b)) (other_nodes layout net.0) in
     let grounds = many_caps (λ a. cap_for layout rules a None (Ground a.0 a.1)) ((net.0, 1) ∷ (net.0, 2) ∷ []) most (λ a. one_cap layout rules a None (Ground a.0 a.1) near table) in
-    omega (arith, grounds, node_couplings layout rules (net.0, 1) net.0 few near table, node_couplings layout rules (net.0, 2) net.0 few near table,
-    sum_by-append (λ (cap : Cap). cap.amount) (ground_caps layout rules net) (couplings layout rules net),
-    sum_by-append (λ (cap : Cap). cap.amount) (f 1) (f 2 ++ []), sum_by-append (λ (cap : Cap). cap.amount) (f 2) [])
+    omega (
+      arith,
+      grounds,
+      node_couplings layout rules (net.0, 1) net.0 few near table,
+      node_couplings layout rules (net.0, 2) net.0 few near table,
+      sum_by-append (λ (cap : Cap). cap.amount) (ground_caps layout rules net) (couplings layout rules net),
+      sum_by-append (λ (cap : Cap). cap.amount) (f 1) (f 2 ++ []),
+      sum_by-append (λ (cap : Cap). cap.amount) (f 2) [],
+    )

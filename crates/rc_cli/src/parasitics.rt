@@ -170,12 +170,7 @@ impl Resistor {
 }
 
 impl NetParasitics {
-    pub fn new(
-        name: u32,
-        total: u128,
-        caps: List<Cap>,
-        resistors: List<Resistor>,
-    ) -> NetParasitics
+    pub fn new(name: u32, total: u128, caps: List<Cap>, resistors: List<Resistor>) -> NetParasitics
         ensures { result ≡ record { name = name; total = total; caps = caps; resistors = resistors } }
     {
         NetParasitics {

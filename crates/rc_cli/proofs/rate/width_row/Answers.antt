@@ -1,6 +1,6 @@
 use Rattle.std.proofs.Common.{sym}
 use Rattle.std.specs.Prelude.{nat_le}
-use Rattle.rc_cli.proofs.Scales.{found_row, found_within, last_row}
+use Rattle.rc_cli.proofs.Scales.{found_row, last_row}
 use Rattle.rc_cli.proofs.rate.width_row.Goals as goal
 
 pub returns-in-Some-clause-is : goal.returns-in-Some-clause-is

@@ -1,4 +1,4 @@
-use Rattle.std.proofs.Common.{◌≡◌, ◌++◌, ◌∷◌, take, Some}
+use Rattle.std.proofs.Common.{◌≡◌, ◌++◌, take, Some}
 use Rattle.std.specs.List.{enumerate_from}
 use Rattle.rc_geom.specs.Parts.{pair_key}
 use Rattle.rc_cli.specs.Layout.{linked}
