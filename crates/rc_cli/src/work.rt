@@ -127,12 +127,7 @@ fn text_of(
 }
 
 /// What a layout comes to by rules: its text, or the refusal of its first short.
-fn finish(
-    alloc: Global,
-    tech: &Tech<'_>,
-    design: &Design<'_>,
-    rules: &Rules,
-) -> Result<Text, Stop>
+fn finish(alloc: Global, tech: &Tech<'_>, design: &Design<'_>, rules: &Rules) -> Result<Text, Stop>
     requires width { IsLength tech.now.width }
     requires few { length design.now.wires ≤ 16 }
     ensures text { IfOk result (λ text. extracted (linked tech.now design.now) rules.now (first_short_of (linked tech.now design.now)) ≡ Done text) }

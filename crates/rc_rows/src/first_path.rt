@@ -106,6 +106,149 @@ fn outcome<R: Threads + Sync>(
     Ok((status, out, err))
 }
 
+/// The header of the design `t`.
+const HEADER: &str =
+    "*SPEF \"IEEE 1481-1998\"\n*DESIGN \"t\"\n*DATE \"Thu Jan 1 00:00:00 1970\"\n*VENDOR \"rcx\"\n*PROGRAM \"rcx\"\n*VERSION \"1\"\n*DESIGN_FLOW \"NAME_SCOPE LOCAL\" \"PIN_CAP NONE\"\n*DIVIDER /\n*DELIMITER :\n*BUS_DELIMITER [ ]\n*T_UNIT 1 PS\n*C_UNIT 1 FF\n*R_UNIT 1 OHM\n*L_UNIT 1 HENRY\n";
+
+/// What follows the header where the two wires of the design stand 200 units apart.
+const TWO_WIRES: &str =
+    "\n*NAME_MAP\n*1 a\n*2 b\n\n*D_NET *1 0.96\n*CAP\n1 *1:1 0.26\n2 *1:2 0.26\n3 *1:1 *2:1 0.22\n4 *1:2 *2:2 0.22\n*RES\n1 *1:1 *1:2 2\n*END\n\n*D_NET *2 0.96\n*CAP\n1 *2:1 0.26\n2 *2:2 0.26\n3 *2:1 *1:1 0.22\n4 *2:2 *1:2 0.22\n*RES\n1 *2:1 *2:2 2\n*END\n";
+
+/// The same 400 units apart, where the gap is the last distance.
+const AT_THE_LAST_DISTANCE: &str =
+    "\n*NAME_MAP\n*1 a\n*2 b\n\n*D_NET *1 0.795\n*CAP\n1 *1:1 0.2875\n2 *1:2 0.2875\n3 *1:1 *2:1 0.11\n4 *1:2 *2:2 0.11\n*RES\n1 *1:1 *1:2 2\n*END\n\n*D_NET *2 0.795\n*CAP\n1 *2:1 0.2875\n2 *2:2 0.2875\n3 *2:1 *1:1 0.11\n4 *2:2 *1:2 0.11\n*RES\n1 *2:1 *2:2 2\n*END\n";
+
+/// The same 401 units apart, past the last distance.
+const APART: &str =
+    "\n*NAME_MAP\n*1 a\n*2 b\n\n*D_NET *1 0.74\n*CAP\n1 *1:1 0.37\n2 *1:2 0.37\n*RES\n1 *1:1 *1:2 2\n*END\n\n*D_NET *2 0.74\n*CAP\n1 *2:1 0.37\n2 *2:2 0.37\n*RES\n1 *2:1 *2:2 2\n*END\n";
+
+/// The front of a DEF file, up to its nets; and its end.
+const FRONT: &str =
+    "VERSION 5.8 ;\nDESIGN t ;\nUNITS DISTANCE MICRONS 1000 ;\nNETS 2 ;\n- a + ROUTED m1 ( 0 0 ) ( 1000 0 ) ;\n";
+
+const END: &str = "END NETS\nEND DESIGN\n";
+
+fn joined(alloc: Global, parts: &[&str]) -> Result<String, NoMemory> {
+    let mut text = String::new(alloc);
+    for part in parts {
+        text.push_str(part)?;
+    }
+    Ok(text)
+}
+
+/// The status of a run whose DEF file has this second net, and what `out` and `err` hold then. A write takes at most 100
+/// bytes; these calls on `out` and on `err` fail.
+fn run_with<R: Threads + Sync>(
+    rt: &R,
+    alloc: Global,
+    net: &str,
+    failing: (u64, u64),
+) -> Result<(u8, MemSink, MemSink), NoMemory> {
+    let def = joined(alloc, &[FRONT, net, END])?;
+    let input = Input {
+        words: WORDS,
+        lef: TECHNOLOGY,
+        def: def.as_str(),
+        rules: RULES,
+        failing: 0,
+    };
+    let mut for_out = List::new(alloc);
+    for_out.push(failing.0)?;
+    let mut for_err = List::new(alloc);
+    for_err.push(failing.1)?;
+    let mut out = MemSink::new(alloc, 100, 10_000, for_out)?;
+    let mut err = MemSink::new(alloc, 100, 10_000, for_err)?;
+    let words = command_line(alloc, &input)?;
+    let mut files = files(alloc, &input)?;
+    let status = run(rt, alloc, &words, &mut files, &mut out, &mut err);
+    Ok((status, out, err))
+}
+
+/// Whether a run with this second net ends with the status, the text behind the header (nothing where it is empty), and the
+/// line.
+fn comes_to<R: Threads + Sync>(
+    rt: &R,
+    alloc: Global,
+    net: &str,
+    status: u8,
+    body: &str,
+    line: &str,
+) -> Result<bool, NoMemory> {
+    let (ended, out, err) = run_with(rt, alloc, net, (0, 0))?;
+    let header = if body.is_empty() { "" } else { HEADER };
+    let text = joined(alloc, &[header, body])?;
+    Ok(ended == status && out.bytes() == text.as_bytes() && err.bytes() == line.as_bytes())
+}
+
+#[test]
+fn texts_of_two_wires_and_their_shorts(rt: HostRuntime) {
+    let rows = [
+        (
+            "- b + ROUTED m1 ( 0 200 ) ( 1000 200 ) ;\n",
+            0,
+            TWO_WIRES,
+            "",
+        ),
+        (
+            "- b + ROUTED m1 ( 1000 200 ) ( 0 200 ) ;\n",
+            0,
+            TWO_WIRES,
+            "",
+        ),
+        (
+            "- b + ROUTED m1 ( 0 101 ) ( 1000 101 ) ;\n",
+            0,
+            TWO_WIRES,
+            "",
+        ),
+        (
+            "- b + ROUTED m1 ( 0 400 ) ( 1000 400 ) ;\n",
+            0,
+            AT_THE_LAST_DISTANCE,
+            "",
+        ),
+        ("- b + ROUTED m1 ( 0 401 ) ( 1000 401 ) ;\n", 0, APART, ""),
+        (
+            "- b + ROUTED m1 ( 1100 100 ) ( 2100 100 ) ;\n",
+            2,
+            "",
+            "rcx: E13 a b m1 1050 50\n",
+        ),
+    ];
+    for (net, status, body, line) in rows {
+        let told = comes_to(&rt, rt.alloc(), net, status, body, line);
+        assert!(rt; told.is_ok_and(|same| same), "{net}");
+    }
+}
+
+#[test]
+fn sinks_that_fail(rt: HostRuntime) {
+    let Ok((status, out, err)) = run_with(
+        &rt,
+        rt.alloc(),
+        "- b + ROUTED m1 ( 0 200 ) ( 1000 200 ) ;\n",
+        (2, 0),
+    ) else {
+        assert!(rt; false, "memory ran out");
+        return;
+    };
+    assert_eq!(rt; status, 4);
+    assert_eq!(rt; out.bytes(), &HEADER.as_bytes()[..100]);
+    assert!(rt; err.bytes().is_empty());
+    let Ok((status, out, err)) = run_with(
+        &rt,
+        rt.alloc(),
+        "- b + ROUTED m1 ( 1100 100 ) ( 2100 100 ) ;\n",
+        (0, 1),
+    ) else {
+        assert!(rt; false, "memory ran out");
+        return;
+    };
+    assert_eq!(rt; status, 4);
+    assert!(rt; out.bytes().is_empty());
+    assert!(rt; err.bytes().is_empty());
+}
+
 #[test]
 fn usage_read_faults_and_refusals(rt: HostRuntime) {
     let usage = "rcx: usage\n";
