@@ -1,3 +1,5 @@
+//! The exact decimal of a number.
+
 ghost use Rattle.std.specs.Prelude.{◌≡◌, ◌+◌, ◌<◌, ◌≤◌, ◌^◌, ◌++◌, drop, length, take};
 ghost use Rattle.std.specs.Fmt.{decimal};
 ghost use Rattle.rc_fixed.specs.Decimal.{decimal_text, fraction_text};

@@ -1,3 +1,5 @@
+//! Why a text is no number.
+
 use thiserror::Error;
 
 /// Why a number in a text is refused.

@@ -1,3 +1,5 @@
+//! Lists that contracts see as their items.
+
 ghost use Rattle.std.specs.Prelude.{◌≡◌, [], ◌∷◌, ◌++◌, ◌<◌, ◌↔◌, IsTrue, length, slice_get, slice_set, IsNone, IfSome, IfNone, OnOk, OnErr};
 
 use crate::NoMemory;

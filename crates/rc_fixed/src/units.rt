@@ -1,3 +1,5 @@
+//! The ten units, and a number for one of them.
+
 ghost use Rattle.std.specs.Prelude.{◌≡◌, ◌*◌, ◌/◌, ◌≤◌, ◌^◌, ◌↔◌, IsTrue};
 ghost use Rattle.rc_fixed.specs.Units.{IsUnits};
 

@@ -1,8 +1,13 @@
+//! What files are.
+
 ghost use Rattle.std.specs.Prelude.{◌≡◌, ◌↔◌, ◌<◌, ◌≤◌, ◌++◌, [], List, ℕ, Bool, Option, Some, length, take, IsTrue, IfOk, OnOk, OnErr};
 ghost use Rattle.rc_io.specs.Causes.{Rose};
 
+use thiserror::Error;
+
 /// A call on a file or a sink failed. The object's count of faults rose.
-#[derive(Clone, Copy, Debug, PartialEq, Eq)]
+#[derive(Clone, Copy, Debug, PartialEq, Eq, Error)]
+#[error("the file or the sink failed")]
 pub struct Failed;
 
 /// Files by name, of which one at a time is read.

@@ -1,3 +1,5 @@
+//! The sink that a text is gathered in.
+
 ghost use Rattle.std.specs.Prelude.{◌≡◌, ◌<◌, ◌≤◌, ◌++◌, [], length, take, IfOk, OnOk, OnErr, Some};
 ghost use Rattle.rc_io.specs.Causes.{HasCause, next_count};
 

@@ -1,3 +1,5 @@
+//! What is proved of the definitions.
+
 ghost use Rattle.rc_io.specs.Bytes.{GrowsByNothing, GrowsByBoth};
 
 /// Appending nothing to a sink's bytes changes nothing, and appending twice is appending both at once.

@@ -1,3 +1,5 @@
+//! Files in memory, whose calls fail as listed.
+
 ghost use Rattle.std.specs.Prelude.{◌≡◌, ◌⊎◌, ◌↔◌, ◌<◌, ◌≤◌, ◌+◌, ◌++◌, [], List as Elements, ℕ, Option, Some, None, true, length, take, min, replicate, IfOk, OnOk, OnErr, IsErr, IsTrue, Contains};
 ghost use Rattle.std.specs.Option.{ForSome};
 ghost use Rattle.rc_io.specs.Causes.{Rose, next_count};

@@ -1,3 +1,5 @@
+//! A sink in memory, whose calls fail as listed.
+
 ghost use Rattle.std.specs.Prelude.{◌≡◌, ◌⊎◌, ◌↔◌, ◌<◌, ◌≤◌, ◌++◌, [], length, take, IfOk, OnErr, IsErr, Some, Contains};
 ghost use Rattle.rc_io.specs.Causes.{HasCause, next_count};
 ghost use Rattle.rc_io.specs.Memory.{taken_len, after_write, after_refusal};

@@ -1,18 +1,24 @@
+//! Reading a file whole.
+
 ghost use Rattle.std.specs.Prelude.{◌≡◌, ◌≢◌, ◌+◌, ◌<◌, ◌≤◌, ◌^◌, ◌++◌, List, ℕ, Some, None, length, IsTrue, IfOk, OnOk, OnErr, IsErrOf};
 ghost use Rattle.rc_io.specs.Causes.{Rose};
 
 use crate::Files;
 use rc_fixed::List;
 use std::alloc::Global;
+use thiserror::Error;
 
 /// Why a file was not read whole.
-#[derive(Clone, Copy, Debug, PartialEq, Eq)]
+#[derive(Clone, Copy, Debug, PartialEq, Eq, Error)]
 pub enum ReadEnd {
     /// The file failed.
+    #[error("the file failed")]
     Fault,
     /// The file has more bytes than were to be read.
+    #[error("the file is too long")]
     Long,
     /// There was no memory for the bytes.
+    #[error("out of memory")]
     NoMemory,
 }
 
@@ -23,8 +29,8 @@ const PIECE: usize = 65_536;
 ///
 /// # Errors
 ///
-/// `Fault` only where the count of this name rose, and always for a name that isn't there. `Long` where the
-/// file has more than `room` bytes. `NoMemory` where memory ran out.
+/// `Fault` only where the count of this name rose, and always for a name that isn't there, where the files tell what they
+/// hold. `Long` only where the file has more than `room` bytes. `NoMemory` for want of memory, which no clause can tell.
 pub fn read_whole<F: Files>(
     alloc: Global,
     files: &mut F,

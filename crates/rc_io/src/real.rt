@@ -1,3 +1,5 @@
+//! The files and the streams of the operating system.
+
 ghost use Rattle.std.specs.Prelude.{◌≡◌, ◌↔◌, ◌<◌, ◌≤◌, [], List, ℕ, false, None, length, IfOk, OnOk, OnErr, IsTrue};
 ghost use Rattle.std.specs.Io.KnownBytes.{ReadConsumes, WriteAppends};
 ghost use Rattle.rc_io.specs.Causes.{HasCause, Rose, next_count};
@@ -32,8 +34,10 @@ impl<'a, R: rt::Files> Model for RealFiles<'a, R> {
 }
 
 impl<'a, R: rt::Files> RealFiles<'a, R> {
-    /// The files of this runtime, of which none is open yet.
-    pub fn new(host: &'a R) -> RealFiles<'a, R> {
+    /// The files of this runtime, of which none is open yet and none has failed.
+    pub fn new(host: &'a R) -> RealFiles<'a, R>
+        ensures { result ≡ record { is_open = false; left = None; faults = 0 } }
+    {
         RealFiles {
             host,
             file: None,
@@ -126,8 +130,10 @@ impl<W: Write> Model for RealSink<W> {
 }
 
 impl<W: Write> RealSink<W> {
-    /// The sink that writes to this stream.
-    pub fn new(stream: W) -> RealSink<W> {
+    /// The sink that writes to this stream. It has not failed yet.
+    pub fn new(stream: W) -> RealSink<W>
+        ensures { result ≡ record { held = W.contents stream; faults = 0 } }
+    {
         RealSink { stream, faults: 0 }
     }
 

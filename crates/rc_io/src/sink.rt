@@ -1,3 +1,5 @@
+//! What a sink is.
+
 ghost use Rattle.std.specs.Prelude.{◌≡◌, ◌<◌, ◌≤◌, List, ℕ, Option, length, take, IfOk, OnErr};
 ghost use Rattle.rc_io.specs.Causes.{HasCause};
 ghost use Rattle.rc_io.specs.Bytes.{grown};

@@ -1,3 +1,5 @@
+//! The codes of refusals.
+
 ghost use Rattle.std.specs.Prelude.{◌≡◌};
 ghost use Rattle.rc_keys.specs.Names.{code_name, quantity_name};
 

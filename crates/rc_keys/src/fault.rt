@@ -1,3 +1,5 @@
+//! Refusals, and the faults of readers.
+
 ghost use Rattle.std.specs.Prelude.{◌≡◌};
 ghost use Rattle.rc_keys.specs.declared.fault.Fault.TheVariants as fault;
 

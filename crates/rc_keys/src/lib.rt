@@ -1,4 +1,5 @@
-//! Why an input is refused: codes, quantities, refusals and the fault type of all readers.
+//! Why an input is refused: codes, quantities, refusals, and the fault type of the readers of the whole
+//! formats.
 #![tactic(auto)]
 
 mod code;
