@@ -1,10 +1,12 @@
 -- What the tests of whole numbers, of squares and of points tell.
-use Rattle.std.proofs.Common.{◌≡◌, ℤ, ◌≤ℤ◌, ◌<ℤ◌, Bool, true, false, arith}
-use Rattle.std.specs.Prelude.{int_lt, int_le, ◌&&◌}
+use Rattle.std.proofs.Common.{◌≡◌, ℤ, ◌≤ℤ◌, ◌<ℤ◌, Bool, true, false, Option, Some, None, refl, arith}
+use Rattle.std.specs.Prelude.{int_lt, int_le, ◌&&◌, is_some}
+use Rattle.std.proofs.lemmas.Bool.{true≢false}
 use Rattle.std.proofs.lemmas.Int.{ints}
 use Rattle.rc_geom.specs.declared.rect.Pt.{Pt}
 use Rattle.rc_geom.specs.declared.rect.Rect.{Rect}
 use Rattle.rc_geom.specs.Rects.{covers, touches}
+use Rattle.rc_geom.specs.Plane.{Metal}
 
 pub lt_tells : (a b : ℤ) → int_lt a b ≡ true → a <ℤ b
 lt_tells a b h = grind (arith, ints)
@@ -20,9 +22,6 @@ le_passes a b h = grind (arith, ints)
 
 pub lt_fails : (a b : ℤ) → b ≤ℤ a → int_lt a b ≡ false
 lt_fails a b h = grind (arith, ints)
-
-pub le_fails : (a b : ℤ) → b <ℤ a → int_le a b ≡ false
-le_fails a b h = grind (arith, ints)
 
 -- the four bounds of a square, and of a point
 pub record Covered (r : Rect) (p : Pt) : Type 0 where
@@ -60,3 +59,8 @@ touched r p h =
 pub touches_from : (r : Rect) (p : Pt) → Touched r p → touches r p ≡ true
 touches_from r p h =
     four (int_le r.x0 p.x) (int_le p.x r.x1) (int_le r.y0 p.y) (int_le p.y r.y1) (le_passes r.x0 p.x h.left) (le_passes p.x r.x1 h.right) (le_passes r.y0 p.y h.below) (le_passes p.y r.y1 h.above)
+
+-- nothing stands on a square without metal
+pub empty_is : (o : Option Metal) → is_some o ≡ false → o ≡ None
+empty_is None h = refl
+empty_is (Some b) h = absurd (true≢false h)

@@ -87,7 +87,7 @@ square_at axis r f layer at along up small inside =
 
 -- ---- faces of a node
 
-one_metal : (a b : Metal) → is_metal a b ≡ true → a ≡ b
+pub one_metal : (a b : Metal) → is_metal a b ≡ true → a ≡ b
 one_metal a b h =
     let both = and_parts (a.0 == b.0) (a.1 == b.1) h in
     let net = eqb-true a.0 b.0 both.0 in
@@ -114,7 +114,7 @@ seen_one : (metal own a : Metal) (c : Bool) → option_map_or (λ m. is_metal m 
 seen_one metal own a true h = absurd (true≢false (sym h))
 seen_one metal own a false h = h
 
-seen_gap : (own : Metal) (sight : Option Seen) (a : Metal) → option_map_or (λ metal. is_metal metal a) (foreign_metal own sight) false ≡ true → (d : ℕ) × (sight ≡ Some (d, a))
+pub seen_gap : (own : Metal) (sight : Option Seen) (a : Metal) → option_map_or (λ metal. is_metal metal a) (foreign_metal own sight) false ≡ true → (d : ℕ) × (sight ≡ Some (d, a))
 seen_gap own None a h = absurd (true≢false (sym h))
 seen_gap own (Some s) a h = (s.0, ap Some (λ i. (s.0, one_metal s.1 a (seen_one s.1 own a (s.1.0 == own.0) h) i)))
 
@@ -140,7 +140,7 @@ face_found plane rates a axis layer at along up (Some face) big an_axis a_layer 
     (λ (seen : sees face a ≡ true). face_of_seen plane rates a axis layer at along up face an_axis a_layer is seen)
     (count_cases face (rate_of rates plane layer (square_of axis at along) face) a big h)
 
-same_metal : (a : Metal) → is_metal a a ≡ true
+pub same_metal : (a : Metal) → is_metal a a ≡ true
 same_metal a = and_from (a.0 == a.0) (a.1 == a.1) (eq-eqb a.0 a.0 refl) (eq-eqb a.1 a.1 refl)
 
 counts : (c d : Bool) → c ≡ true → 0 < cond c 1 0 + cond d 1 0
@@ -156,7 +156,7 @@ face_counts plane rates a axis layer at along (Some face) big owns =
     subst (λ (n : ℕ). 0 < n) (sym words) (counts (is_metal face.own a) ((is_metal face.own a && sees_grounded face) || (is_grounded face.own && sees face a)) own)
 
 -- a face stands on metal
-face_metal : (cap reach : ℕ) (line : Line) (up : Bool) (z : ℤ) (o : Option Face) → face_at cap reach line up z ≡ o → IsSomeAnd o (λ _. Unit {0}) → is_some (line z) ≡ true
+pub face_metal : (cap reach : ℕ) (line : Line) (up : Bool) (z : ℤ) (o : Option Face) → face_at cap reach line up z ≡ o → IsSomeAnd o (λ _. Unit {0}) → is_some (line z) ≡ true
 face_metal cap reach line up z None is some = absurd some
 face_metal cap reach line up z (Some face) is some =
     let first = end_tells (ray up line z) face.own (face_tells cap reach line up z face is).0 in
@@ -184,7 +184,7 @@ axis_counts plane rates r a axis layer at along up holds big h =
     let most = square_at axis r (λ layer at along up. worth_at numbers (λ _. 1) (Ground a.0 a.1) (parts_of plane rates axis layer at along up)) layer at along up h.a_layer inside in
     omega (arith, some, most)
 
-either_axis : {V : Type 0} (plane : Plane) (rates : Rates V) (r : Rect) (key : Key) (axis : ℕ) → axis < 2 → count_in plane rates axis r key ≤ key_count plane rates r key
+pub either_axis : {V : Type 0} (plane : Plane) (rates : Rates V) (r : Rect) (key : Key) (axis : ℕ) → axis < 2 → count_in plane rates axis r key ≤ key_count plane rates r key
 either_axis plane rates r key zero h = omega arith
 either_axis plane rates r key (suc zero) h = omega arith
 either_axis plane rates r key (suc (suc n)) h = absurd (omega arith)

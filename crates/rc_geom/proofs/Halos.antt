@@ -99,12 +99,14 @@ kept_owner layer p t ts keep false is needed rest =
     ∙ (ap (λ (c : Bool). better (cond c (Some t) None) (owner ts layer p)) (sym misses)
     ∙ sym (owner-cons layer p t ts)))
 
+-- a square keeps its owner where those tiles are left out that don't claim it
+pub owner_kept : (tiles : List Tile) (keep : Tile → Bool) (layer : ℕ) (p : Pt) → ((t : Tile) → claims layer p t ≡ true → keep t ≡ true) → owner (filter keep tiles) layer p ≡ owner tiles layer p
+owner_kept [] keep layer p needed = refl
+owner_kept (t ∷ ts) keep layer p needed = kept_owner layer p t ts keep (keep t) refl (needed t) (owner_kept ts keep layer p needed)
+
 near_owner : (tiles : List Tile) (r : Rect) (keep : Tile → Bool) (layer : ℕ) (p : Pt) → ((t : Tile) → SharesSquare t.rect r → keep t ≡ true) → covers r p ≡ true → owner (filter keep tiles) layer p ≡ owner tiles layer p
-near_owner [] r keep layer p needed inside = refl
-near_owner (t ∷ ts) r keep layer p needed inside =
-    kept_owner layer p t ts keep (keep t) refl
-    (λ does. needed t (p, (and_parts (t.layer == layer) (covers t.rect p) does).1, inside))
-    (near_owner ts r keep layer p needed inside)
+near_owner tiles r keep layer p needed inside =
+    owner_kept tiles keep layer p (λ t does. needed t (p, (and_parts (t.layer == layer) (covers t.rect p) does).1, inside))
 
 pub near_tiles_suffice : {V W : Type 0} → NearTilesSuffice V W
 near_tiles_suffice adding worth tiles keep rates axis window halo key reaches needed =

@@ -6,9 +6,11 @@ pub mod Rays
 pub mod Totals
 pub mod Areas
 pub mod KeyTests
+pub mod KeyOrders
 pub mod Nearest
 pub mod Cuts
 pub mod Halos
 pub mod Words
 pub mod Entries
+pub mod Facings
 pub mod FarNets

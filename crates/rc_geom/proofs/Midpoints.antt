@@ -6,7 +6,7 @@ use Rattle.std.proofs.lemmas.Int.{ints}
 use Rattle.rc_geom.specs.Split.{middle, reach_to}
 
 -- twice the half is the number, or one less
-half : (z : ℤ) → ((int_div_euclid z (pos 2) +ℤ int_div_euclid z (pos 2)) ≤ℤ z) × (z <ℤ (int_div_euclid z (pos 2) +ℤ int_div_euclid z (pos 2) +ℤ pos 2))
+pub half : (z : ℤ) → ((int_div_euclid z (pos 2) +ℤ int_div_euclid z (pos 2)) ≤ℤ z) × (z <ℤ (int_div_euclid z (pos 2) +ℤ int_div_euclid z (pos 2) +ℤ pos 2))
 half (pos a) = (omega (arith, ints), omega (arith, ints))
 half (negsuc a) = (omega (arith, ints), omega (arith, ints))
 

@@ -4,9 +4,9 @@ use Rattle.std.specs.Prelude.{is_some, MatchOption}
 use Rattle.std.specs.List.{fold, find, range_with_len}
 use Rattle.std.proofs.lemmas.Bool.{true≢false, cases_order}
 use Rattle.std.proofs.lemmas.List.Sums.{fold_push}
-use Rattle.rc_geom.specs.Plane.{Metal}
 use Rattle.rc_geom.specs.Context.{layer_count, last_that, under, over}
 use Rattle.rc_geom.specs.Laws.{UnderIsHighest, OverIsLowest}
+use Rattle.rc_geom.proofs.Bounds.{empty_is}
 use Rattle.rc_geom.proofs.Totals.{range_more}
 
 -- the last number below n that passes, and the first one from a on
@@ -90,10 +90,6 @@ first_is p a n (Some m) l h first = ap Some (first_one p a n m l h first)
 
 -- ---- layers
 
-bare : (o : Option Metal) → is_some o ≡ false → o ≡ None
-bare None h = refl
-bare (Some b) h = absurd (true≢false h)
-
 pub under_is_highest : UnderIsHighest
 under_is_highest plane layer p l =
     let has : ℕ → Bool = λ k. is_some (plane k p) in
@@ -101,7 +97,7 @@ under_is_highest plane layer p l =
     let Told : Option ℕ → Type 0 = λ o. MatchOption o ((k : ℕ) → k < layer → has k ≡ false) (IsLast has layer) in (
       λ e.
           let last = subst Told e tells in
-          record { below = last.below; metal = last.passes; nearest = λ k low high. bare (plane k p) (last.after k low high) },
+          record { below = last.below; metal = last.passes; nearest = λ k low high. empty_is (plane k p) (last.after k low high) },
       λ h. last_is has layer (under plane layer p) l tells (record { below = h.below; passes = h.metal; after = λ k low high. ap is_some (h.nearest k low high) }),
     )
 
@@ -113,6 +109,6 @@ over_is_lowest plane layer p l =
     let Told : Option ℕ → Type 0 = λ o. MatchOption o ((k : ℕ) → layer + 1 ≤ k → k < (layer + 1) + n → has k ≡ false) (IsFirst has (layer + 1) n) in (
       λ e.
           let first = subst Told e tells in
-          record { above = omega (arith, first.from); within = omega (arith, first.from, first.below); metal = first.passes; nearest = λ k low high. bare (plane k p) (first.before k (omega arith) high) },
+          record { above = omega (arith, first.from); within = omega (arith, first.from, first.below); metal = first.passes; nearest = λ k low high. empty_is (plane k p) (first.before k (omega arith) high) },
       λ h. first_is has (layer + 1) n (over plane layer p) l tells (record { from = omega (arith, h.above); below = omega (arith, h.above, h.within); passes = h.metal; before = λ k low high. ap is_some (h.nearest k (omega arith) high) }),
     )

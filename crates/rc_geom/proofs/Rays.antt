@@ -12,6 +12,7 @@ use Rattle.rc_geom.specs.Plane.{Metal}
 use Rattle.rc_geom.specs.Line.{Line, Ray, ray, mirror, at_distance}
 use Rattle.rc_geom.specs.Faces.{Face, Seen, face_at, face_between, end_of, is_net, thickness, gap, sight}
 use Rattle.rc_geom.specs.Laws.{IsMirrored, IsThickness, ThicknessIsARun, FacesAreThick, IsSeen, SightIsFirst, SightIsMutual, FacesAreLocal}
+use Rattle.rc_geom.proofs.Bounds.{empty_is}
 
 -- ---- the mirror
 
@@ -90,10 +91,6 @@ gap_tells reach ahead =
       empty = λ k less. ap is_some (sym (at next (reach + 1) k None (omega (arith, len, most)))) ∙ fails_before_first is_some xs k None less;
       stop = λ less. ap is_some (sym (at next (reach + 1) (gap reach ahead) None less)) ∙ passes_at_first is_some xs None (omega (arith, len));
     }
-
-empty_is : (o : Option Metal) → is_some o ≡ false → o ≡ None
-empty_is None h = refl
-empty_is (Some b) h = absurd (true≢false h)
 
 -- what sight is at a gap and the square behind it
 abbrev seen_at : ℕ → ℕ → Option Metal → Option Seen

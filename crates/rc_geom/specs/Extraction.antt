@@ -3,7 +3,6 @@ use Rattle.std.specs.Prelude.{ℕ, ℤ, ◌+◌, Bool, List, [], Option}
 use Rattle.std.specs.Option.{option_map_or}
 use Rattle.rc_geom.specs.declared.rect.Rect.{Rect}
 use Rattle.rc_geom.specs.declared.key.Key.{Key}
-use Rattle.rc_geom.specs.declared.key.Key.TheVariants.{Ground}
 use Rattle.rc_geom.specs.Plane.{Metal, Plane}
 use Rattle.rc_geom.specs.Line.{line_of, square_of}
 use Rattle.rc_geom.specs.Faces.{Face, face_at}
@@ -42,12 +41,8 @@ key_value adding plane rates r key =
 abbrev pub key_count : {V : Type 0} → Plane → Rates V → Rect → Key → ℕ
 key_count plane rates r key = count_in plane rates 0 r key + count_in plane rates 1 r key
 
--- a node's own value; the coupling of two nodes of different nets, and how many faces of either see the other
-abbrev pub node_value : {V : Type 0} → Adding V → Plane → Rates V → Rect → Metal → V
-node_value adding plane rates r a = key_value adding plane rates r (Ground a.0 a.1)
+-- the ground value of a node is key_value of its Ground key; the coupling of two nodes of two nets that of their pair_key
 
-abbrev pub coupling : {V : Type 0} → Adding V → Plane → Rates V → Rect → Metal → Metal → V
-coupling adding plane rates r a b = key_value adding plane rates r (pair_key a b)
-
+-- how many faces of either node see the other
 abbrev pub facing_count : {V : Type 0} → Plane → Rates V → Rect → Metal → Metal → ℕ
 facing_count plane rates r a b = key_count plane rates r (pair_key a b)

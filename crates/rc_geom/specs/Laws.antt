@@ -1,6 +1,9 @@
--- What holds of the definitions themselves.
-use Rattle.std.specs.Prelude.{Option, ◌⊎◌, ◌≡◌, ◌≢◌, ◌↔◌, ◌<◌, ◌≤◌, ◌+◌, ℕ, ℤ, neg_ℤ, Bool, true, false, not, List, ◌∷◌, ◌++◌, Some, None, IsTrue, is_some, IfSome, IsSomeAnd, MatchOption, All, Contains, filter, ◌≤ℤ◌, ◌&&◌, ◌||◌, if◌then◌else◌}
+-- What holds of the definitions themselves. Each law is the contract of a function of src/laws.rt.
+use Rattle.std.specs.Prelude.{Option, ◌⊎◌, ◌≡◌, ◌≢◌, ◌↔◌, ◌<◌, ◌≤◌, ◌+◌, ℕ, ℤ, neg_ℤ, Bool, true, false, not, List, [], ◌∷◌, ◌++◌, Some, None, IsTrue, is_some, IfSome, IsSomeAnd, MatchOption, All, Contains, filter, ◌≤ℤ◌, ◌&&◌, ◌||◌, if◌then◌else◌}
 use Rattle.std.specs.List.Sorted.{IsPermutation}
+use Rattle.std.specs.Ordering.{nat_cmp}
+use Rattle.std.specs.Cmp.Lexicographic.{slice_cmp}
+use Rattle.std.specs.declared.cmp.Ordering.{Ordering}
 use Rattle.rc_geom.specs.declared.rect.Pt.{Pt}
 use Rattle.rc_geom.specs.declared.rect.Rect.{Rect}
 use Rattle.rc_geom.specs.declared.tile.Tile.{Tile}
@@ -14,7 +17,7 @@ use Rattle.rc_geom.specs.Context.{layer_count, under, over}
 use Rattle.rc_geom.specs.Rates.{Rates}
 use Rattle.rc_geom.specs.Parts.{pair_key, shared_key, same_key, parts, worth_at, is_metal, sees, sees_grounded}
 use Rattle.rc_geom.specs.Sums.{Adding, IsNeutral, IsAdditive, total, total_between, square_sum}
-use Rattle.rc_geom.specs.Extraction.{face_of, parts_of, sum_in, key_value, key_count}
+use Rattle.rc_geom.specs.Extraction.{face_of, parts_of, sum_in, key_value, key_count, facing_count}
 
 -- the tile is one of them, covers the square, and none that covers it has a lesser rank
 pub record IsOwner (tiles : List Tile) (layer : ℕ) (p : Pt) (t : Tile) : Type 0 where
@@ -222,6 +225,16 @@ SharesAreMutual = (a b : Metal) → a.0 ≢ b.0 →
 abbrev pub KeysAreTold : Type 0
 KeysAreTold = (a b : Key) → IsTrue (same_key a b) ↔ (a ≡ b)
 
+-- a key as a row of numbers: a 0 for one node or a 1 for two, and then its fields
+abbrev pub key_numbers : Key → List ℕ
+key_numbers (Ground net node) = 0 ∷ net ∷ node ∷ []
+key_numbers (Pair net node other onode) = 1 ∷ net ∷ node ∷ other ∷ onode ∷ []
+
+-- keys stand in the order of their rows, of which the first numbers that differ decide: each node comes before each
+-- pair, and among nodes and among pairs the fields decide one after another
+abbrev pub KeysHaveAnOrder : (Key → Key → Ordering) → Type 0
+KeysHaveAnOrder order = (a b : Key) → order a b ≡ slice_cmp nat_cmp (key_numbers a) (key_numbers b)
+
 -- to the value of a node its own faces add their own amount, and their share where they see grounded metal; grounded
 -- faces add their share where they see the node
 abbrev pub NodesInWords : Type 0 → Type 0 → Type 0
@@ -260,6 +273,19 @@ NodesOwnFaces V = (plane : Plane) (rates : Rates V) (r : Rect) (a : Metal) →
     HoldsMetal r plane → 0 < a.1 →
     (0 < key_count plane rates r (Ground a.0 a.1))
     ↔ ((axis : ℕ) × (layer : ℕ) × (at : ℤ) × (along : ℤ) × (up : Bool) × IsFaceOf plane rates a axis layer at along up)
+
+-- a layer's square has that node's face, in a direction of an axis, and the face sees the other node
+pub record IsFacing {V : Type 0} (plane : Plane) (rates : Rates V) (a b : Metal) (axis layer : ℕ) (at along : ℤ) (up : Bool) : Type 0 where
+  pub an_axis : axis < 2
+  pub a_layer : layer < layer_count
+  pub faces : IsSomeAnd (face_of plane rates axis layer at along up) (λ face. (face.own ≡ a) × (sees face b ≡ true))
+
+-- nodes of two nets have parts for the key of both exactly where a face of the one sees the other
+abbrev pub PairsFace : Type 0 → Type 0
+PairsFace V = (plane : Plane) (rates : Rates V) (r : Rect) (a b : Metal) →
+    HoldsMetal r plane → 0 < a.1 → 0 < b.1 → a.0 ≢ b.0 →
+    (0 < facing_count plane rates r a b)
+    ↔ ((axis : ℕ) × (layer : ℕ) × (at : ℤ) × (along : ℤ) × (up : Bool) × IsFacing plane rates a b axis layer at along up)
 
 -- a key is of a net: that of its node, or of one of its two nodes
 abbrev pub IsOfNet : ℕ → Key → Type 0

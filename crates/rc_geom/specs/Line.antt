@@ -18,12 +18,6 @@ square_of (suc _) at along = record { x = at; y = along }
 abbrev pub line_of : Plane → ℕ → ℕ → ℤ → Line
 line_of plane layer axis at along = plane layer (square_of axis at along)
 
-abbrev pub row : Plane → ℕ → ℤ → Line
-row plane layer y = line_of plane layer 0 y
-
-abbrev pub column : Plane → ℕ → ℤ → Line
-column plane layer x = line_of plane layer 1 x
-
 -- the line read the other way round
 abbrev pub mirror : Line → Line
 mirror line z = line (neg_ℤ z)

@@ -38,11 +38,6 @@ pub record IsLowestCommon (a b : Rect) (p : Pt) : Type 0 where
   pub left : (q : Pt) → IsTrue (touches a q) → IsTrue (touches b q) → p.x ≤ℤ q.x
   pub down : (q : Pt) → IsTrue (touches a q) → IsTrue (touches b q) → p.y ≤ℤ q.y
 
--- its ends are in order
-pub record IsProper (r : Rect) : Type 0 where
-  pub wide : r.x0 <ℤ r.x1
-  pub high : r.y0 <ℤ r.y1
-
 -- each square of the inner rectangle lies in the outer one
 pub record IsInside (inner outer : Rect) : Type 0 where
   pub left : outer.x0 ≤ℤ inner.x0

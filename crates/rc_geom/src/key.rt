@@ -1,3 +1,5 @@
+//! What sums are kept by.
+
 /// What a sum over faces is kept for: one node, or two nodes of different nets.
 ///
 /// Keys of single nodes come first, then keys of pairs, each by its fields in order.

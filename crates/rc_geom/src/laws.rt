@@ -1,7 +1,9 @@
 //! What is proved of the definitions, each law on a function that does nothing.
 
 ghost use Rattle.rc_geom.specs.Line.{Line};
-ghost use Rattle.rc_geom.specs.Laws.{OwnersAreLeast, OrderIsFree, OwnersSuffice, IsMirrored, ThicknessIsARun, FacesAreThick, SightIsFirst, SightIsMutual, FacesAreLocal, UnderIsHighest, OverIsLowest, InnerSumsSuffice, TilesHoldMetal, MetalBounds, ValuesAreBounded, CutsAdd, LayersSwap, LinesDecide, HalosSuffice, NearTilesSuffice, SharesAreMutual, KeysAreTold, NodesInWords, CouplingsInWords, PartsAreSound, SoundRatesSuffice, NodesOwnFaces, FarNetsAddNothing};
+ghost use Rattle.rc_geom.specs.Laws.{OwnersAreLeast, OrderIsFree, OwnersSuffice, IsMirrored, ThicknessIsARun, FacesAreThick, SightIsFirst, SightIsMutual, FacesAreLocal, UnderIsHighest, OverIsLowest, InnerSumsSuffice, TilesHoldMetal, MetalBounds, ValuesAreBounded, CutsAdd, LayersSwap, LinesDecide, HalosSuffice, NearTilesSuffice, SharesAreMutual, KeysAreTold, KeysHaveAnOrder, NodesInWords, CouplingsInWords, PartsAreSound, SoundRatesSuffice, NodesOwnFaces, PairsFace, FarNetsAddNothing};
+
+use crate::Key;
 
 /// A square's owner is the tile of least rank among those that cover it; it has none only where no tile covers it.
 pub fn owners_are_least()
@@ -117,6 +119,11 @@ pub fn keys_are_told()
     ensures { KeysAreTold }
 {}
 
+/// A key of one node is below each key of two. Among keys of one kind the fields decide, the first that differs.
+pub fn keys_have_an_order()
+    ensures { KeysHaveAnOrder (⟦<Key as Ord>⟧.cmp) }
+{}
+
 /// What a face adds to the value of a node: its own amount and what it shares with grounded metal, where it is the
 /// node's; its share, where it is grounded and sees the node.
 pub fn nodes_in_words<V, W>()
@@ -142,6 +149,12 @@ pub fn sound_rates_suffice<V, W>()
 /// A node has parts for its own key exactly where it owns a face, in a rectangle that holds all metal.
 pub fn nodes_own_faces<V>()
     ensures { NodesOwnFaces V }
+{}
+
+/// Nodes of two nets have parts for the key of both exactly where a face of the one sees the other, in a rectangle that
+/// holds all metal.
+pub fn pairs_face<V>()
+    ensures { PairsFace V }
 {}
 
 /// Where a window and its halo have no square of a net, the window has no part for a key of that net.

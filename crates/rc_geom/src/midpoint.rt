@@ -1,3 +1,5 @@
+//! The middle of two nodes.
+
 ghost use Rattle.std.specs.Prelude.{◌≡◌, ◌≤◌, ◌<◌, ◌≤ℤ◌, ◌<ℤ◌, ℤ};
 ghost use Rattle.rc_geom.specs.Split.{middle, reach_to, IsCoordinate};
 

@@ -1,3 +1,5 @@
+//! Points and rectangles.
+
 ghost use Rattle.std.specs.Prelude.{◌≡◌, ◌↔◌, IsTrue, MatchOption};
 ghost use Rattle.rc_geom.specs.Rects.{common_part, has_squares as has_squares_of, has_points as has_points_of, SharesSquare, IsLowestCommon, IsApart};
 
@@ -8,7 +10,7 @@ pub struct Pt {
     pub y: i32,
 }
 
-/// A rectangle: `x0` is below `x1`, and `y0` below `y1`.
+/// A rectangle by its lower left and its upper right corner. It has unit squares only where `x0 < x1` and `y0 < y1`.
 ///
 /// Its unit squares are those with lower left corner (x, y), where `x0 <= x < x1` and `y0 <= y < y1`.
 #[derive(Clone, Copy, Debug, PartialEq, Eq)]

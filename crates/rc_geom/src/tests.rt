@@ -53,24 +53,29 @@ fn nodes_part_their_squares(rt: HostRuntime) {
     }
 }
 
+fn pair(net: u32, node: u32, other: u32, onode: u32) -> Key {
+    Key::Pair {
+        net,
+        node,
+        other,
+        onode,
+    }
+}
+
 #[test]
 fn keys_have_an_order(rt: HostRuntime) {
-    let node = Key::Ground { net: 9, node: 9 };
-    let pair = Key::Pair {
-        net: 0,
-        node: 1,
-        other: 1,
-        onode: 1,
-    };
-    let later = Key::Pair {
-        net: 0,
-        node: 1,
-        other: 1,
-        onode: 2,
-    };
-    assert!(rt; node < pair);
-    assert!(rt; pair < later);
-    assert!(rt; Key::Ground { net: 8, node: 10 } < node);
+    let rising = [
+        Key::Ground { net: 8, node: 10 },
+        Key::Ground { net: 9, node: 9 },
+        pair(0, 1, 1, 1),
+        pair(0, 1, 1, 2),
+        pair(0, 1, 2, 0),
+        pair(0, 2, 1, 0),
+        pair(1, 0, 2, 0),
+    ];
+    for (key, next) in rising.iter().zip(rising.iter().skip(1)) {
+        assert!(rt; key < next, "{key:?}");
+    }
 }
 
 #[test]

@@ -1,3 +1,5 @@
+//! Sides and tiles.
+
 use crate::Rect;
 
 /// The side of a unit square that a face looks to.
