@@ -15,7 +15,7 @@ use Rattle.rc_geom.specs.Extraction.{sum_in}
 use Rattle.rc_squares.specs.declared.sums.Sum.{Sum}
 use Rattle.rc_squares.specs.declared.entries.Entry.{Entry}
 use Rattle.rc_squares.specs.declared.tally.Tally.{Tally}
-use Rattle.rc_squares.specs.Tallies.{KeyOrder, sum_at, IsTally, Enters}
+use Rattle.rc_squares.specs.Tallies.{KeyOrder, sum_at, Enters}
 use Rattle.rc_squares.specs.Entries.{entry_of, entry_at, AreSums}
 use Rattle.rc_squares.proofs.Tallies.{TellsKeys}
 
@@ -39,19 +39,6 @@ says_at order tells (p ∷ es) key =
 keys_stay : (es : List (Key × Sum)) → map (λ (e : Entry). e.key) (map entry_of es) ≡ keys_of es
 keys_stay [] = refl
 keys_stay (p ∷ es) = ap (λ (ks : List Key). p.0 ∷ ks) (keys_stay es)
-
--- an empty map has no sums
-pub empty_tally : (order : KeyOrder) (t : Tally) → IsEmpty t.sums → IsTally order t
-empty_tally order t empty =
-    let none : (q : Key) → get order t.sums q ≡ None = λ q. ap (lookup (is_at (order q))) empty in
-    let P : Option Sum → Type 0 = λ o. IfSome o (λ sum. 1 ≤ sum.count) in
-    let count : (q : Key) → (sum_at order t.sums q).count ≡ 0 = λ q. ap (λ (o : Option Sum). (unwrap_or o (record { count = 0; value = 0 })).count) (none q) in
-    let value : (q : Key) → (sum_at order t.sums q).value ≡ 0 = λ q. ap (λ (o : Option Sum). (unwrap_or o (record { count = 0; value = 0 })).value) (none q) in
-    record {
-      few = λ q. omega (arith, count q);
-      small = λ q. omega (arith, value q);
-      some = λ q. subst P (sym (none q)) tt;
-    }
 
 -- what both axes have entered
 pub are_sums : (order : KeyOrder) (plane : Plane) (rates : Rates ℕ) (r : Rect) (a b c : Tally) (entries : List Entry) → TellsKeys order → IsEmpty a.sums → Enters order a b (λ worth key. sum_in numbers worth plane rates 0 r key) (2 ^ 69) → Enters order b c (λ worth key. sum_in numbers worth plane rates 1 r key) (2 ^ 69) → IsOrdered order c.sums → entries ≡ map entry_of c.sums.entries → AreSums order plane rates r entries

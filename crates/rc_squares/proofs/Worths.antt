@@ -112,7 +112,7 @@ layer_bare worth tiles rates layer key axis r n none =
 
 -- ---- the sums of the definitions
 
-square_same : (worth : ℕ → ℕ) (plane : Plane) (rates : Rates ℕ) (layer : ℕ) (key : Key) (axis : ℕ) (at along : ℤ) → both_directions numbers (λ up. worth_at numbers worth key (parts_of plane rates axis layer at along up)) ≡ square_worth worth plane rates layer key axis (square_of axis at along)
+pub square_same : (worth : ℕ → ℕ) (plane : Plane) (rates : Rates ℕ) (layer : ℕ) (key : Key) (axis : ℕ) (at along : ℤ) → both_directions numbers (λ up. worth_at numbers worth key (parts_of plane rates axis layer at along up)) ≡ square_worth worth plane rates layer key axis (square_of axis at along)
 unfolding square_worth side_worth
 square_same worth plane rates layer key zero at along = refl
 square_same worth plane rates layer key (suc a) at along = refl

@@ -1,4 +1,5 @@
 pub mod Sides
+pub mod Crossing
 pub mod Found
 pub mod Worths
 pub mod Tallies

@@ -1,3 +1,5 @@
+//! The lines of a rectangle, and their places.
+
 ghost use Rattle.std.specs.Prelude.{◌≡◌, ◌+◌, ◌<◌, ◌≤◌, ◌<ℤ◌, ◌≤ℤ◌, ◌+ℤ◌, ◌^◌, pos, negsuc};
 ghost use Rattle.rc_geom.specs.Rects.{IsNear, IsNearRect};
 ghost use Rattle.rc_geom.specs.Line.{square_of};
@@ -7,28 +9,28 @@ ghost use Rattle.rc_squares.specs.Sides.{side_of};
 use rc_geom::{Pt, Rect, Side};
 
 /// Where the first line of the axis stands that crosses the rectangle.
-fn first_line<const A: usize>(area: &Rect) -> i32
+pub fn first_line<const A: usize>(area: &Rect) -> i32
     ensures { result ≡ first_line_of A area.now }
 {
     if A == 0 { area.y0 } else { area.x0 }
 }
 
 /// Where the lines of the axis end that cross the rectangle.
-fn end_line<const A: usize>(area: &Rect) -> i32
+pub fn end_line<const A: usize>(area: &Rect) -> i32
     ensures { result ≡ end_line_of A area.now }
 {
     if A == 0 { area.y1 } else { area.x1 }
 }
 
 /// Where those lines begin in the rectangle.
-fn first_place<const A: usize>(area: &Rect) -> i32
+pub fn first_place<const A: usize>(area: &Rect) -> i32
     ensures { result ≡ first_place_of A area.now }
 {
     if A == 0 { area.x0 } else { area.y0 }
 }
 
 /// Where those lines end in the rectangle.
-fn end_place<const A: usize>(area: &Rect) -> i32
+pub fn end_place<const A: usize>(area: &Rect) -> i32
     ensures { result ≡ end_place_of A area.now }
 {
     if A == 0 { area.x1 } else { area.y1 }
@@ -63,6 +65,24 @@ pub fn lines<const A: usize>(area: &Rect) -> u32
     extent(first_line::<A>(area), end_line::<A>(area))
 }
 
+/// Where a line of the axis stands that crosses the rectangle, by its number from 0.
+pub fn line_at<const A: usize>(area: &Rect, line: u32) -> i32
+    requires area { IsNearRect area.now }
+    requires line { line < extent_of (first_line_of A area.now) (end_line_of A area.now) }
+    ensures { result ≡ first_line_of A area.now +ℤ pos line }
+{
+    offset(first_line::<A>(area), line)
+}
+
+/// A place of a line of the axis in the rectangle, by its number from 0.
+fn place_at<const A: usize>(area: &Rect, place: u32) -> i32
+    requires area { IsNearRect area.now }
+    requires place { place < extent_of (first_place_of A area.now) (end_place_of A area.now) }
+    ensures { result ≡ first_place_of A area.now +ℤ pos place }
+{
+    offset(first_place::<A>(area), place)
+}
+
 /// How many squares each of these lines has in the rectangle.
 pub fn places<const A: usize>(area: &Rect) -> u32
     requires { IsNearRect area.now }
@@ -80,8 +100,8 @@ pub fn square<const A: usize>(area: &Rect, line: u32, place: u32) -> Pt
     ensures is { result ≡ square_of A (first_line_of A area.now +ℤ pos line) (first_place_of A area.now +ℤ pos place) }
     ensures near { IsNear result }
 {
-    let at = offset(first_line::<A>(area), line);
-    let along = offset(first_place::<A>(area), place);
+    let at = line_at::<A>(area, line);
+    let along = place_at::<A>(area, place);
     if A == 0 {
         Pt { x: along, y: at }
     } else {

@@ -1,3 +1,5 @@
+//! The sums of all keys, in one pass.
+
 ghost use Rattle.std.specs.Prelude.{◌≡◌, All, IfOk, map};
 ghost use Rattle.std.specs.BTreeMap.{IsOrdered};
 ghost use Rattle.rc_geom.specs.Rects.{IsNearRect};
@@ -13,7 +15,7 @@ use rc_geom::{Key, Rect, Tile};
 use std::alloc::Global;
 use std::collections::BTreeMap;
 
-/// How many parts a key has, and the sum of their amounts.
+/// How many parts a key has, and the sum of their amounts, in the unit of the rates.
 #[derive(Clone, Copy, Debug, PartialEq, Eq)]
 pub struct Entry {
     pub key: Key,
@@ -39,7 +41,11 @@ fn listed(alloc: Global, sums: &BTreeMap<Key, Sum>) -> Result<List<Entry>, NoMem
 
 /// For each key that has a part, how many parts the faces of both axes add whose squares lie in the rectangle, and the
 /// sum of their amounts: one pass over the squares for all keys. The entries stand by rising keys, and a key without an
-/// entry has none. An error is want of memory.
+/// entry has none.
+///
+/// # Errors
+///
+/// `NoMemory` for want of memory.
 pub fn sums_in<R: FaceRates>(
     alloc: Global,
     tiles: &[Tile],
@@ -51,7 +57,7 @@ pub fn sums_in<R: FaceRates>(
     ensures { IfOk result (λ list. AreSums (⟦<Key as Ord>⟧.cmp) (plane_of tiles.now) (R.rates_of rates.now) area.now list) }
 {
     let mut tally = Tally::new(alloc);
-    enter_axis::<0, R>(&mut tally, tiles, rates, area)?;
-    enter_axis::<1, R>(&mut tally, tiles, rates, area)?;
+    enter_axis::<0, R>(alloc, &mut tally, tiles, rates, area)?;
+    enter_axis::<1, R>(alloc, &mut tally, tiles, rates, area)?;
     listed(alloc, &tally.sums)
 }

@@ -1,3 +1,5 @@
+//! The faces of a square.
+
 ghost use Rattle.std.specs.Prelude.{◌≡◌, ◌<◌, ◌≤◌, ◌^◌, Some, not, MatchOption, IfSome, option_map};
 ghost use Rattle.rc_geom.specs.Rects.{IsNear};
 ghost use Rattle.rc_geom.specs.Plane.{plane_of};

@@ -3,6 +3,7 @@
 #![tactic(auto)]
 
 mod area;
+mod crossing;
 mod entries;
 mod faces;
 mod parts;

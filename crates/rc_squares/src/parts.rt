@@ -1,3 +1,5 @@
+//! What a face adds.
+
 ghost use Rattle.std.specs.Prelude.{◌≡◌, ◌<◌, ◌≤◌, ◌^◌, Some, IfSome, option_map};
 ghost use Rattle.std.specs.Option.{ForSome, option_and_then, option_to_list};
 ghost use Rattle.rc_geom.specs.Rects.{IsNear};

@@ -1,3 +1,5 @@
+//! What faces are rated by.
+
 ghost use Rattle.std.specs.Prelude.{◌≡◌, ◌<◌, ◌≤◌, ◌^◌, ℕ};
 ghost use Rattle.std.specs.Option.{ForSome};
 ghost use Rattle.rc_geom.specs.Rates.{Rates};
@@ -8,14 +10,14 @@ pub trait FaceRates {
 
     ghost rates_of: { Self → Rates ℕ };
 
-    /// The greatest thickness that counts on a layer.
+    /// The greatest thickness that counts on a layer, in unit squares.
     fn cap(&self, layer: u8) -> u32
         requires { has_rules self.now layer }
         ensures is { result ≡ (rates_of self.now).cap layer }
         ensures least { 1 ≤ result }
         ensures most { result ≤ 2 ^ 29 };
 
-    /// The greatest gap that counts on a layer.
+    /// The greatest gap that counts on a layer, in unit squares.
     fn reach(&self, layer: u8) -> u32
         requires { has_rules self.now layer }
         ensures is { result ≡ (rates_of self.now).reach layer }

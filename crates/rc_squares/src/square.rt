@@ -1,3 +1,5 @@
+//! What stands on a unit square.
+
 ghost use Rattle.std.specs.Prelude.{◌≡◌, ◌+◌, ◌≤◌, ◌^◌};
 ghost use Rattle.rc_geom.specs.Rects.{covers as covers_of, IsNear};
 ghost use Rattle.rc_geom.specs.Plane.{claims as claims_of, least_of as least, plane_of};

@@ -1,3 +1,5 @@
+//! The sums of one key.
+
 ghost use Rattle.std.specs.Prelude.{◌≡◌, ◌+◌, ◌+ℤ◌, ◌<◌, ◌≤◌, ◌^◌, pos, Some, All, IfSome, option_map, ◌==◌};
 ghost use Rattle.std.specs.List.{list_any};
 ghost use Rattle.rc_geom.specs.Rects.{IsNear, IsNearRect};
@@ -14,13 +16,14 @@ use crate::rates::FaceRates;
 use crate::square::{Metal, metal_at};
 use rc_geom::{Key, Pt, Rect, Side, Tile};
 
-/// What faces add to a key: how many parts they are, and the sum of their amounts.
+/// What faces add to a key: how many parts they are, and the sum of their amounts, in the unit of the rates.
 #[derive(Clone, Copy, Debug, PartialEq, Eq)]
 pub struct Sum {
     pub count: u128,
     pub value: u128,
 }
 
+/// The sum of no part.
 pub const NOTHING: Sum = Sum { count: 0, value: 0 };
 
 /// Two sums together.

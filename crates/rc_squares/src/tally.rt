@@ -1,3 +1,5 @@
+//! The sums of all keys so far.
+
 ghost use Rattle.std.specs.Prelude.{◌≡◌, ◌+◌, ◌<◌, ◌^◌, Some, OnOk, IfSome, option_map};
 ghost use Rattle.std.specs.BTreeMap.{IsEmpty};
 ghost use Rattle.rc_squares.specs.Found.{part_value};
