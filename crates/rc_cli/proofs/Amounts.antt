@@ -19,7 +19,8 @@ use Rattle.rc_geom.specs.Extraction.{key_value, value_in, face_of, parts_of}
 use Rattle.rc_geom.proofs.Totals.{total_none, total_suc, extent_is}
 use Rattle.rc_cli.specs.RuleForm.{Rules}
 use Rattle.rc_cli.specs.Ranges.{IsTable, IsNumber}
-use Rattle.rc_cli.specs.Rate.{rates, row_of, width_row, numbers_at, distance_column, face_rate, per_unit}
+use Rattle.rc_cli.proofs.Scales.{one_table}
+use Rattle.rc_cli.specs.Rate.{rates, rows_for, row_of, width_row, numbers_at, distance_column, face_rate, per_unit}
 
 -- ---- the numbers of a table
 
@@ -29,11 +30,11 @@ number_small row k all = ⊎_elim
     (λ past. let none : slice_index row k ≡ 0 = get_or_past row k 0 past in omega (arith, none))
     (cases_lt k (length row))
 
-row_numbers : (rules : Rules) (thick : ℕ) → IsTable rules → All IsNumber (row_of rules thick)
-row_numbers rules thick table = ⊎_elim
+row_numbers : (rules : Rules) (rows : List (List ℕ)) (thick : ℕ) → IsTable rules → rows ≡ rules.rows → All IsNumber (row_of rules rows thick)
+row_numbers rules rows thick table same = subst (λ (rs : List (List ℕ)). All IsNumber (row_of rules rs thick)) (sym same) (⊎_elim
     (λ less. (table.row (width_row rules thick) [] less).1)
-    (λ past. let none : row_of rules thick ≡ [] = get_or_past rules.rows (width_row rules thick) [] past in subst (All IsNumber) (sym none) (λ k d less. absurd (omega (arith, less))))
-    (cases_lt (width_row rules thick) (length rules.rows))
+    (λ past. let none : row_of rules rules.rows thick ≡ [] = get_or_past rules.rows (width_row rules thick) [] past in subst (All IsNumber) (sym none) (λ k d less. absurd (omega (arith, less))))
+    (cases_lt (width_row rules thick) (length rules.rows)))
 
 -- both amounts of a face
 pub record AreSmall (pair : ℕ × ℕ) : Type 0 where
@@ -47,8 +48,9 @@ numbers_small : (rules : Rules) (row : List ℕ) (column : Option ℕ) → All I
 numbers_small rules row None all = record { own = per_unit_small _ (number_small row (2 * length rules.distances) all); share = omega arith }
 numbers_small rules row (Some k) all = record { own = per_unit_small _ (number_small row (2 * k) all); share = per_unit_small _ (number_small row (2 * k + 1) all) }
 
-pub rate_small : (rules : Rules) (thick : ℕ) (gap : Option ℕ) → IsTable rules → AreSmall (face_rate rules thick gap)
-rate_small rules thick gap table = numbers_small rules (row_of rules thick) (distance_column rules gap) (row_numbers rules thick table)
+pub rate_small : (rules : Rules) (under over : Option ℕ) (thick : ℕ) (gap : Option ℕ) → IsTable rules → AreSmall (face_rate rules under over thick gap)
+rate_small rules under over thick gap table =
+    numbers_small rules (row_of rules (rows_for rules under over) thick) (distance_column rules gap) (row_numbers rules (rows_for rules under over) thick table (one_table rules under over))
 
 -- ---- what a face adds to a key
 
@@ -110,5 +112,5 @@ axis_small plane rs axis r key near small =
 pub value_small : (plane : Plane) (rules : Rules) (r : Rect) (key : Key) → IsNearRect r → IsTable rules → key_value numbers plane (rates rules) r key ≤ 64 * (1073741826 * (1073741826 * 40000000000000000))
 unfolding rates
 value_small plane rules r key near table =
-    let small = λ (layer : ℕ) (under over : Option ℕ) (thick : ℕ) (gap : Option ℕ). rate_small rules thick gap table in
+    let small = λ (layer : ℕ) (under over : Option ℕ) (thick : ℕ) (gap : Option ℕ). rate_small rules under over thick gap table in
     omega (arith, axis_small plane (rates rules) 0 r key near small, axis_small plane (rates rules) 1 r key near small)

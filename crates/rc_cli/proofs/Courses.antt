@@ -2,6 +2,7 @@
 use Rattle.std.proofs.Common.{◌≡◌, ◌<◌, ◌≤◌, ◌-◌, ℕ, List, Bool, true, false, cond, Option, Some, None, length, ap, ◌∙◌, refl, sym, arith}
 use Rattle.std.specs.Prelude.{nat_lt, IsTrue, Result, Ok, Err, IfOk, IfErr}
 use Rattle.std.proofs.Common.{inl, inr, subst}
+use Rattle.rc_io.specs.Memory.{GatheredBytes}
 use Rattle.rc_io.specs.Causes.{Rose}
 use Rattle.std.proofs.lemmas.Bool.Decides.{nat_tests}
 use Rattle.rc_cli.specs.Command.{Extract}
@@ -149,13 +150,13 @@ unextracted s asked linked rules (Fault word) comes refused = absurd refused
 unextracted s asked linked rules NoMemory comes refused = tt
 
 -- the text of an extraction, and what stops one, as the work tells them
-pub told-text : (r : Result (List ℕ) Stop) (tells : Bool) (texts : Texts) (asked : Extract) (linked : Layout) (rules : RuleValues) →
-    (IsTrue tells → outcome texts asked ≡ extracted linked rules (first_short linked)) → IfOk r (λ text. extracted linked rules (first_short linked) ≡ Done text) →
-    IfOk r (λ text. IsTrue tells → outcome texts asked ≡ Done text)
-told-text (Ok text) tells texts asked linked rules comes done = λ told. comes told ∙ done
+pub told-text : (r : Result GatheredBytes Stop) (tells : Bool) (texts : Texts) (asked : Extract) (linked : Layout) (rules : RuleValues) →
+    (IsTrue tells → outcome texts asked ≡ extracted linked rules (first_short linked)) → IfOk r (λ gathered. extracted linked rules (first_short linked) ≡ Done gathered.bytes) →
+    IfOk r (λ gathered. IsTrue tells → outcome texts asked ≡ Done gathered.bytes)
+told-text (Ok gathered) tells texts asked linked rules comes done = λ told. comes told ∙ done
 told-text (Err why) tells texts asked linked rules comes done = tt
 
-pub told-stop : (r : Result (List ℕ) Stop) (s : Sources) (asked : Extract) (linked : Layout) (rules : RuleValues) →
+pub told-stop : (r : Result GatheredBytes Stop) (s : Sources) (asked : Extract) (linked : Layout) (rules : RuleValues) →
     (IsTrue s.tells → outcome s.texts asked ≡ extracted linked rules (first_short linked)) → IfErr r (IsUnextracted linked rules) → IfErr r (λ why. HasStopped s asked why)
-told-stop (Ok text) s asked linked rules comes stopped = tt
+told-stop (Ok gathered) s asked linked rules comes stopped = tt
 told-stop (Err why) s asked linked rules comes stopped = unextracted s asked linked rules why comes stopped

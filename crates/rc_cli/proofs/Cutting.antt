@@ -6,6 +6,7 @@ use Rattle.std.proofs.lemmas.List.Sums.{prefix_len-le-length}
 use Rattle.std.proofs.lemmas.Bool.Decides.{nat_tests}
 use Rattle.std.proofs.lemmas.List.{drop_all}
 use Rattle.rc_cli.specs.Cut.{is_blank, is_some_word, words_of, IsFirstWord}
+use Rattle.rc_cli.proofs.Points.{place-Some, place-None}
 
 -- the place of the first byte that is no blank
 abbrev pub start_of : List ℕ → ℕ
@@ -15,7 +16,7 @@ start_of text = position_or_len (λ byte. not (is_blank byte)) text
 abbrev pub end_of : List ℕ → ℕ
 end_of text = position_or_len is_blank text
 
-one_more : (n : ℕ) → 1 + n ≡ suc n
+pub one_more : (n : ℕ) → 1 + n ≡ suc n
 one_more n = omega arith
 
 -- the parts behind the first one
@@ -44,12 +45,6 @@ skipped (byte ∷ rest) =
       | true ↦ λ _. rw (one_more (start_of rest)) (skipped rest)
       | false ↦ λ not_blank. ap (λ b. filter is_some_word (cond b ([] ∷ slice_split is_blank rest) (onto_first byte (slice_split is_blank rest)))) (sym not_blank)
     ] refl
-
-place-Some : (n len k : ℕ) → cond (nat_lt n len) (Some n) None ≡ Some k → (n ≡ k) × (k < len)
-place-Some n len k found = (grind (arith, nat_tests), grind (arith, nat_tests))
-
-place-None : (n len : ℕ) → cond (nat_lt n len) (Some n) None ≡ None → len ≤ n
-place-None n len none = grind (arith, nat_tests)
 
 place-or : (n len : ℕ) → n ≤ len → unwrap_or (cond (nat_lt n len) (Some n) None) len ≡ n
 place-or n len within = grind (arith, nat_tests)

@@ -14,9 +14,6 @@ use Rattle.rc_cli.proofs.Hits.{HasNoHit, IsFirstHit, IsFirst, first_of_filter_ma
 abbrev pub NoneBefore : {X A : Type 0} → (X → Option A) → List X → ℕ → Type 0
 NoneBefore {X} give xs n = (j : ℕ) (x : X) → j < n → slice_get xs j ≡ Some x → give x ≡ None
 
-pub none_at_start : {X A : Type 0} (give : X → Option A) (xs : List X) → NoneBefore give xs 0
-none_at_start give xs j x lt h = absurd (omega arith)
-
 pub none_more : {X A : Type 0} (give : X → Option A) (xs : List X) (n : ℕ) (y : X) → slice_get xs n ≡ Some y → give y ≡ None → NoneBefore give xs n → NoneBefore give xs (n + 1)
 none_more give xs n y stands nothing before j x lt h =
     ⊎_elim (λ sooner. before j x sooner h) (λ not_sooner.

@@ -1,22 +1,17 @@
 -- The two nodes of a wire.
 use Rattle.std.proofs.Common.{◌≡◌, ◌⊎◌, inl, inr, ⊎_elim, ℕ, ℤ, ◌<ℤ◌, true, false, cond, refl, sym, ◌∙◌, arith}
-use Rattle.std.specs.Prelude.{int_lt, ◌≤ℤ◌, nat_le, not, ◌&&◌, ◌↔◌}
+use Rattle.std.specs.Prelude.{nat_le, not, ◌&&◌, ◌↔◌}
 use Rattle.std.specs.Ordering.{int_eq}
 use Rattle.std.proofs.lemmas.Int.{ints, by_lt_z}
 use Rattle.std.proofs.lemmas.Bool.{or_cases, and_parts, not-true, le-leb, lt-leb, cond-true, cond-false}
 use Rattle.std.proofs.lemmas.Bool.Decides.{Decides-int_eq}
 use Rattle.rc_geom.specs.declared.rect.Pt.{Pt}
 use Rattle.rc_geom.specs.Split.{middle, reach_to}
+use Rattle.rc_geom.proofs.Bounds.{lt_passes, lt_fails}
 use Rattle.rc_geom.proofs.Midpoints.{nearer_low, nearer_high}
 use Rattle.rc_cli.specs.DesignForm.{Wire, is_straight}
 use Rattle.rc_cli.specs.Layout.{is_before, lower_end, upper_end, along, nearest_node}
 use Rattle.rc_cli.specs.Laws.{AreNodes, NodesAreEnds}
-
-lt_passes : (a b : ℤ) → a <ℤ b → int_lt a b ≡ true
-lt_passes a b h = grind (arith, ints)
-
-lt_fails : (a b : ℤ) → b ≤ℤ a → int_lt a b ≡ false
-lt_fails a b h = grind (arith, ints)
 
 eq_passes : (a b : ℤ) → a ≡ b → int_eq a b ≡ true
 eq_passes a b h = (Decides-int_eq a b).1 h

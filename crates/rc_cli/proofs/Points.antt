@@ -4,7 +4,8 @@ use Rattle.std.specs.Prelude.{position, nat_lt, not, ◌||◌}
 use Rattle.std.specs.List.{list_any, position_or_len}
 use Rattle.std.proofs.lemmas.List.{take_all, drop_all}
 use Rattle.std.proofs.lemmas.Bool.Decides.{nat_tests}
-use Rattle.rc_cli.specs.Numbers.{is_point, whole_part, fraction_part}
+use Rattle.rc_fixed.specs.Decimal.{is_point}
+use Rattle.rc_cli.specs.Numbers.{whole_part, fraction_part}
 
 at_front : (n : ℕ) → true ≡ nat_lt 0 (suc n)
 at_front n = grind (arith, nat_tests)
@@ -20,10 +21,11 @@ any_point (byte ∷ word) =
     let P : Bool → Type 0 = λ b. b || list_any is_point word ≡ nat_lt (cond (not b) (1 + n) 0) (suc (length word)) in
     elim (is_point byte) as P [ true ↦ at_front (length word) | false ↦ any_point word ∙ one_later n (length word) ]
 
-place-Some : (n len k : ℕ) → cond (nat_lt n len) (Some n) None ≡ Some k → (n ≡ k) × (k < len)
+-- a place that a search finds is the first one, and within the list
+pub place-Some : (n len k : ℕ) → cond (nat_lt n len) (Some n) None ≡ Some k → (n ≡ k) × (k < len)
 place-Some n len k found = (grind (arith, nat_tests), grind (arith, nat_tests))
 
-place-None : (n len : ℕ) → cond (nat_lt n len) (Some n) None ≡ None → len ≤ n
+pub place-None : (n len : ℕ) → cond (nat_lt n len) (Some n) None ≡ None → len ≤ n
 place-None n len none = grind (arith, nat_tests)
 
 pub whole-Some : (word : List ℕ) (at : ℕ) → position is_point word ≡ Some at → take at word ≡ whole_part word

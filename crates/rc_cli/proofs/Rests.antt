@@ -9,6 +9,7 @@ use Rattle.rc_cli.specs.Phrases.{on, after, given, each, list_by, is_semicolon}
 use Rattle.rc_cli.specs.DesignForm.{Wire, wire, wires}
 use Rattle.rc_cli.specs.Numbers.{rule_number}
 use Rattle.rc_cli.specs.RuleForm.{table}
+use Rattle.rc_cli.proofs.Cutting.{one_more}
 use Rattle.std.specs.Prelude.{codes}
 
 abbrev pub behind : {A : Type 0} → List A → Option (List A × List (List ℕ)) → Option (List A × List (List ℕ))
@@ -50,13 +51,6 @@ pub wires-Some : (n : ℕ) (layer : List ℕ) (words rest : List (List ℕ)) (fi
     wire layer words ≡ Some (first, rest) → wires (suc n) layer words ≡ in_front first (wires n layer rest)
 unfolding wires
 wires-Some n layer words rest first dash some = rw (dash, some) refl
-
--- a list that a `;` ends
-pub list-nil : {A : Type 0} (read : List ℕ → Option A) → list_by read [] ≡ None
-list-nil read = refl
-
-one_more : (n : ℕ) → 1 + n ≡ suc n
-one_more n = omega arith
 
 more_one : (n : ℕ) → suc n + 1 ≡ suc (n + 1)
 more_one n = omega arith
@@ -160,15 +154,6 @@ pub list-refused : {A : Type 0} (read : List ℕ → Option A) (done : List A) (
     before ≡ word ∷ words → is_semicolon word ≡ false → read word ≡ None → behind done (list_by read before) ≡ all → all ≡ None
 list-refused read done before words word all first other none is =
     sym is ∙ ap (λ ws. behind done (list_by read ws)) first ∙ ap (behind done) (list-None read word words other none)
-
-pub list-ended : {A : Type 0} (read : List ℕ → Option A) (done : List A) (before words : List (List ℕ)) (word : List ℕ) (all : Option (List A × List (List ℕ))) →
-    before ≡ word ∷ words → is_semicolon word ≡ true → behind done (list_by read before) ≡ all → all ≡ Some (done, words)
-list-ended read done before words word all first ends is =
-    sym is ∙ ap (λ ws. behind done (list_by read ws)) first ∙ ap (behind done) (list-end read word words ends) ∙ behind-last done words
-
-pub list-open : {A : Type 0} (read : List ℕ → Option A) (done : List A) (before : List (List ℕ)) (all : Option (List A × List (List ℕ))) →
-    before ≡ [] → behind done (list_by read before) ≡ all → all ≡ None
-list-open read done before all none is = sym is ∙ ap (λ ws. behind done (list_by read ws)) none
 
 pub table-turn : (count columns : ℕ) (done : List (List ℕ)) (words rest behind_row : List (List ℕ)) (row : List ℕ) (all : Option (List (List ℕ) × List (List ℕ))) →
     length done < count → after (words_of (codes "ROW")) words ≡ Some rest → list_by rule_number rest ≡ Some (row, behind_row) → length row ≡ columns →

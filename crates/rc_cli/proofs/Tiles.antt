@@ -1,5 +1,5 @@
 -- The metal of a wire in two parts, one for each node.
-use Rattle.std.proofs.Common.{◌≡◌, ◌⊎◌, ⊎_elim, ℕ, ℤ, pos, negsuc, Bool, true, false, cond, refl, ap, sym, ◌∙◌, subst, eq-eqb, eqb-true, arith}
+use Rattle.std.proofs.Common.{◌≡◌, ◌⊎◌, ⊎_elim, ℕ, ℤ, pos, Bool, true, false, cond, refl, ap, sym, ◌∙◌, subst, eq-eqb, eqb-true, arith}
 use Rattle.std.specs.Prelude.{◌≤ℤ◌, ◌<ℤ◌, ◌+ℤ◌, ◌-ℤ◌, ◌==◌, ◌&&◌, ◌↔◌}
 use Rattle.std.specs.Int.{int_max, int_min, int_div_euclid}
 use Rattle.std.specs.Ordering.{int_eq}
@@ -10,6 +10,7 @@ use Rattle.rc_geom.specs.declared.rect.Rect.{Rect}
 use Rattle.rc_geom.specs.Rects.{covers}
 use Rattle.rc_geom.specs.Split.{middle, IsCoordinate as IsNearCoordinate}
 use Rattle.rc_geom.proofs.Bounds.{covered, covers_from}
+use Rattle.rc_geom.proofs.Midpoints.{half}
 use Rattle.rc_cli.specs.DesignForm.{Wire}
 use Rattle.rc_cli.specs.Ranges.{IsCoordinate, IsWire}
 use Rattle.rc_cli.specs.Layout.{wire_rect, is_before, lower_end, upper_end, along, nearest_node}
@@ -68,10 +69,6 @@ above_gives : (r : Rect) (at : ℤ) (p : Pt) → covers r p ≡ true → at ≤�
 above_gives r at p h behind = let c = covered r p h in covers_from (part_above r at) p (record { left = c.left; right = c.right; below = behind; above = c.above })
 
 -- the middle of two coordinates lies between them, whichever comes first
-half : (z : ℤ) → ((int_div_euclid z (pos 2) +ℤ int_div_euclid z (pos 2)) ≤ℤ z) × (z <ℤ (int_div_euclid z (pos 2) +ℤ int_div_euclid z (pos 2) +ℤ pos 2))
-half (pos a) = (omega (arith, ints), omega (arith, ints))
-half (negsuc a) = (omega (arith, ints), omega (arith, ints))
-
 middle_low : (a b : ℤ) → int_min a b ≤ℤ middle a b
 middle_low a b = let h = half (a +ℤ b +ℤ pos 1) in omega (arith, ints, clamps)
 

@@ -16,14 +16,14 @@ use Rattle.rc_cli.specs.Outcome.{Done, Refused, Missing, proceed, extracted, tec
 use Rattle.rc_cli.specs.Example.{ExampleIsWorked, asked, files, def_text, touching_def_text}
 
 -- the layout with b's upper end at this place below a
-abbrev layout_from : ℕ → Layout
-layout_from below = record {
+abbrev layout_from : ℕ → ℕ → Layout
+layout_from column below = record {
   design = codes "t";
   layer = codes "m";
   width = 1;
   wires =
       record { name = codes "a"; from = record { x = pos 0; y = pos 0 }; to = record { x = pos 1; y = pos 0 } }
-      ∷ record { name = codes "b"; from = record { x = pos 0; y = negsuc below }; to = record { x = pos 0; y = negsuc 2 } } ∷ [];
+      ∷ record { name = codes "b"; from = record { x = pos column; y = negsuc below }; to = record { x = pos column; y = negsuc 2 } } ∷ [];
 }
 
 abbrev the_rules : Rules
@@ -63,15 +63,15 @@ the_parasitics = record {
       ∷ [];
 }
 
-read : inputs (files (Some def_text)) asked ≡ Done (layout_from 1, the_rules)
+read : inputs (files (Some def_text)) asked ≡ Done (layout_from 0 1, the_rules)
 unfolding words_of tech_of_words wire wires design_of_words table rules_of_words technology layout inputs
 read = refl
 
-apart : first_short (layout_from 1) ≡ None
+apart : first_short (layout_from 0 1) ≡ None
 unfolding first_short
 apart = refl
 
-summed : extraction (layout_from 1) the_rules ≡ the_parasitics
+summed : extraction (layout_from 0 1) the_rules ≡ the_parasitics
 unfolding total plane rates value_of count_of extraction
 summed = refl
 
@@ -79,15 +79,15 @@ written : spef_text the_parasitics ≡ (codes "*SPEF \"IEEE 1481-1998\"\n*DESIGN
 unfolding digits digits_behind spef_text
 written = refl
 
-read_touching : inputs (files (Some touching_def_text)) asked ≡ Done (layout_from 0, the_rules)
+read_touching : inputs (files (Some touching_def_text)) asked ≡ Done (layout_from 2 0, the_rules)
 unfolding words_of tech_of_words wire wires design_of_words table rules_of_words technology layout inputs
 read_touching = refl
 
-touching : first_short (layout_from 0) ≡ Some (record { first = 0; second = 1; corner = record { x = pos 0; y = pos 0 } })
+touching : first_short (layout_from 2 0) ≡ Some (record { first = 0; second = 1; corner = record { x = pos 2; y = pos 0 } })
 unfolding first_short
 touching = refl
 
-told : extracted (layout_from 0) the_rules (Some (record { first = 0; second = 1; corner = record { x = pos 0; y = pos 0 } })) ≡ Refused (codes "rcx: E13 a b m 0 0\n")
+told : extracted (layout_from 2 0) the_rules (Some (record { first = 0; second = 1; corner = record { x = pos 2; y = pos 0 } })) ≡ Refused (codes "rcx: E13 a b m 2 0\n")
 unfolding digits
 told = refl
 
@@ -100,12 +100,12 @@ unfolding outcome
 example_is_worked = record {
   extracted =
       ap (λ course. proceed course (λ (layout, rules). extracted layout rules (first_short layout))) read
-      ∙ ap (extracted (layout_from 1) the_rules) apart
+      ∙ ap (extracted (layout_from 0 1) the_rules) apart
       ∙ ap (λ spef. Done (spef_text spef)) summed
       ∙ ap (λ text. Done text) written;
   short =
       ap (λ course. proceed course (λ (layout, rules). extracted layout rules (first_short layout))) read_touching
-      ∙ ap (extracted (layout_from 0) the_rules) touching
+      ∙ ap (extracted (layout_from 2 0) the_rules) touching
       ∙ told;
   absent = absent;
 }

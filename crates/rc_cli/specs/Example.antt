@@ -20,9 +20,9 @@ lef_text = codes "UNITS DATABASE MICRONS 1000 ; END UNITS\nLAYER m TYPE ROUTING 
 abbrev pub def_text : List ℕ
 def_text = codes "VERSION 5.8 ;\nDESIGN t ;\nUNITS DISTANCE MICRONS 1000 ;\nNETS 2 ;\n- a + ROUTED m ( 0 0 ) ( 1 0 ) ;\n- b + ROUTED m ( 0 -2 ) ( 0 -3 ) ;\nEND NETS\nEND DESIGN\n"
 
--- the same with b one unit longer: it touches a's corner
+-- the same with b elsewhere: it touches a in one corner alone, (2, 0)
 abbrev pub touching_def_text : List ℕ
-touching_def_text = codes "VERSION 5.8 ;\nDESIGN t ;\nUNITS DISTANCE MICRONS 1000 ;\nNETS 2 ;\n- a + ROUTED m ( 0 0 ) ( 1 0 ) ;\n- b + ROUTED m ( 0 -1 ) ( 0 -3 ) ;\nEND NETS\nEND DESIGN\n"
+touching_def_text = codes "VERSION 5.8 ;\nDESIGN t ;\nUNITS DISTANCE MICRONS 1000 ;\nNETS 2 ;\n- a + ROUTED m ( 0 0 ) ( 1 0 ) ;\n- b + ROUTED m ( 2 -1 ) ( 2 -3 ) ;\nEND NETS\nEND DESIGN\n"
 
 abbrev pub rules_text : List ℕ
 rules_text = codes "RCXRULES 1 ;\nLAYER m ; WIDTHS 0.001 0.002 ; DISTS 0.001 ; RES 2 1 ;\nTABLE UNDER NONE OVER NONE ;\nROW 0.1 0.2 0.3 ;\nROW 0.2 0.3 0.4 ;\nEND LAYER ;\nEND RULES ;\n"
@@ -35,8 +35,8 @@ files def name =
     else if bytes_eq name (codes "r.rules") then Some rules_text
     else None
 
--- what the design comes to; with the longer wire; and without its DEF file
+-- what the design comes to; with the wire that touches; and without its DEF file
 pub record ExampleIsWorked : Type 0 where
   pub extracted : outcome (files (Some def_text)) asked ≡ Done (codes "*SPEF \"IEEE 1481-1998\"\n*DESIGN \"t\"\n*DATE \"Thu Jan 1 00:00:00 1970\"\n*VENDOR \"rcx\"\n*PROGRAM \"rcx\"\n*VERSION \"1\"\n*DESIGN_FLOW \"NAME_SCOPE LOCAL\" \"PIN_CAP NONE\"\n*DIVIDER /\n*DELIMITER :\n*BUS_DELIMITER [ ]\n*T_UNIT 1 PS\n*C_UNIT 1 FF\n*R_UNIT 1 OHM\n*L_UNIT 1 HENRY\n\n*NAME_MAP\n*1 a\n*2 b\n\n*D_NET *1 0.0023\n*CAP\n1 *1:1 0.0008\n2 *1:2 0.001\n3 *1:1 *2:2 0.0005\n*RES\n1 *1:1 *1:2 0.002\n*END\n\n*D_NET *2 0.0023\n*CAP\n1 *2:1 0.001\n2 *2:2 0.0008\n3 *2:2 *1:1 0.0005\n*RES\n1 *2:1 *2:2 0.002\n*END\n")
-  pub short : outcome (files (Some touching_def_text)) asked ≡ Refused (codes "rcx: E13 a b m 0 0\n")
+  pub short : outcome (files (Some touching_def_text)) asked ≡ Refused (codes "rcx: E13 a b m 2 0\n")
   pub absent : outcome (files None) asked ≡ Missing (codes "d.def")

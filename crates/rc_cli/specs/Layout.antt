@@ -22,8 +22,8 @@ pub record Layout : Type 0 where
 abbrev pub linked : Tech → Design → Layout
 linked tech design = record { design = design.name; layer = tech.layer; width = tech.width; wires = design.wires }
 
--- the rectangle of a wire: half the width, rounded down, below its centreline and before its lower end, and the rest of
--- the width above and behind
+-- the rectangle of a wire: its centreline, with half the width, rounded down, added on the left and below, and the rest of
+-- the width on the right and above
 abbrev pub wire_rect : ℕ → Wire → Rect
 wire_rect width wire = record {
   x0 = int_min wire.from.x wire.to.x -ℤ pos (width / 2);

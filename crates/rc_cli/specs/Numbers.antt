@@ -1,6 +1,8 @@
 -- Names and numbers, as words. A decimal counts in units of 10^-places.
-use Rattle.std.specs.Prelude.{ℕ, ℤ, pos, neg_ℤ, ◌+◌, ◌-◌, ◌*◌, ◌^◌, ◌==◌, ◌&&◌, ◌||◌, Bool, true, List, [], ◌∷◌, Option, Some, None, length, nat_le, fold, option_map, if◌then◌else◌}
+use Rattle.std.specs.Prelude.{ℕ, ℤ, pos, neg_ℤ, ◌+◌, ◌-◌, ◌*◌, ◌^◌, ◌==◌, ◌&&◌, ◌||◌, Bool, true, List, [], ◌∷◌, Option, Some, None, length, nat_le, option_map, if◌then◌else◌}
 use Rattle.std.specs.List.{list_all, list_any, before_first, after_first}
+use Rattle.std.specs.Str.Parse.{digits_value}
+use Rattle.rc_fixed.specs.Decimal.{is_point}
 
 abbrev pub is_digit : ℕ → Bool
 is_digit byte = nat_le 48 byte && nat_le byte 57
@@ -13,16 +15,9 @@ is_name_byte byte = is_digit byte || (nat_le 65 byte && nat_le byte 90) || (nat_
 abbrev pub is_name : List ℕ → Bool
 is_name word = nat_le 1 (length word) && nat_le (length word) 100 && list_all is_name_byte word
 
--- the number that digits write in base ten
-abbrev pub digits_value : List ℕ → ℕ
-digits_value digits = fold (λ value digit. 10 * value + (digit - 48)) 0 digits
-
 -- 1 to so many digits
 abbrev pub is_digits : ℕ → List ℕ → Bool
 is_digits most word = nat_le 1 (length word) && nat_le (length word) most && list_all is_digit word
-
-abbrev pub is_point : ℕ → Bool
-is_point byte = byte == 46
 
 abbrev pub whole_part : List ℕ → List ℕ
 whole_part word = before_first is_point word
@@ -36,7 +31,7 @@ is_decimal places word = is_digits 5 (whole_part word) && (if list_any is_point 
 
 -- its value times 10^places
 abbrev pub decimal_value : ℕ → List ℕ → ℕ
-decimal_value places word = digits_value (whole_part word) * 10 ^ places + digits_value (fraction_part word) * 10 ^ (places - length (fraction_part word))
+decimal_value places word = digits_value 10 (whole_part word) * 10 ^ places + digits_value 10 (fraction_part word) * 10 ^ (places - length (fraction_part word))
 
 -- a decimal whose value, in units of 10^-places, lies between these two
 abbrev pub decimal_between : ℕ → ℕ → ℕ → List ℕ → Option ℕ
@@ -54,7 +49,7 @@ length_in_units word = decimal_between 3 1 1000 word
 
 -- a coordinate's size: 1 to 5 digits, at most 10000
 abbrev pub distance : List ℕ → Option ℕ
-distance word = if is_digits 5 word && nat_le (digits_value word) 10000 then Some (digits_value word) else None
+distance word = if is_digits 5 word && nat_le (digits_value 10 word) 10000 then Some (digits_value 10 word) else None
 
 -- a coordinate, with a dash in front where it is negative
 abbrev pub coordinate : List ℕ → Option ℤ

@@ -70,10 +70,11 @@ numbered_wires layout = enumerate_from 0 layout.wires
 abbrev pub other_nodes : Layout → ℕ → List Metal
 other_nodes layout net = nodes_of (filter (λ numbered. not (numbered.0 == net)) (numbered_wires layout))
 
+-- the ground value of each node of the net
 abbrev pub ground_caps : Layout → Rules → (ℕ × Wire) → List Cap
 ground_caps layout rules net = filter_map (λ a. cap_for layout rules a None (Ground a.0 a.1)) (nodes_of (net ∷ []))
 
--- by own node, then by the other net, then by its node
+-- the coupling of each node of the net with the nodes of other nets: by own node, then by the other net, then by its node
 abbrev pub couplings : Layout → Rules → (ℕ × Wire) → List Cap
 couplings layout rules net =
     flat_map (λ a. filter_map (λ b. cap_for layout rules a (Some b) (pair_key a b)) (other_nodes layout net.0)) (nodes_of (net ∷ []))

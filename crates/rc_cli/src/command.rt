@@ -1,3 +1,5 @@
+//! The words that are listed.
+
 ghost use Rattle.std.specs.Prelude.{◌≡◌, ℕ, List, Some, None, map, MatchOption};
 ghost use Rattle.std.specs.String.{string_bytes};
 ghost use Rattle.rc_cli.specs.Command.{extract_of, file_name, is_file_word as is_file_word_of};

@@ -1,3 +1,5 @@
+//! The reader of the DEF file.
+
 ghost use Rattle.std.specs.Prelude.{◌≡◌, Some, None, map, IfOk, IfSome, MatchOption};
 ghost use Rattle.std.specs.Str.{bytes_eq};
 ghost use Rattle.std.specs.List.{list_any};
@@ -150,6 +152,10 @@ impl<'a> Wire<'a> {
 
 impl<'a> Design<'a> {
     /// The design that a DEF file describes on this layer. None exactly where the file hasn't the reduced form.
+    ///
+    /// # Errors
+    ///
+    /// `NoMemory` for want of memory.
     pub fn read(alloc: Global, layer: &[u8], text: &'a [u8]) -> Result<Option<Design<'a>>, NoMemory>
         ensures { IfOk result (λ design. design ≡ design_of layer.now text.now) }
     {

@@ -4,17 +4,17 @@ ghost use Rattle.rc_cli.specs.Example.{ExampleIsWorked};
 ghost use Rattle.rc_cli.specs.Forms.{TechIsRead, DesignIsRead, RulesAreRead};
 ghost use Rattle.rc_cli.specs.Laws.{ShortsAreFirst, NodesAreEnds, CouplingsAreMutual, BoundsHoldMetal};
 
-/// A LEF file is read exactly where its words have the reduced form, as the value that they write.
+/// The words of a LEF file are read exactly where they have the reduced form, as the value that they write.
 pub fn technology_is_read()
     ensures { TechIsRead }
 {}
 
-/// The same of a DEF file, on the technology's layer.
+/// The same of the words of a DEF file, on the technology's layer.
 pub fn design_is_read()
     ensures { DesignIsRead }
 {}
 
-/// The same of a rule file.
+/// The same of the words of a rule file.
 pub fn rules_are_read()
     ensures { RulesAreRead }
 {}
@@ -25,7 +25,8 @@ pub fn shorts_are_first()
     ensures { ShortsAreFirst }
 {}
 
-/// The nodes of a wire are its two ends in order, and each unit square belongs to the nearer one.
+/// The nodes of a wire are its two ends in order. Along the wire each unit square below the middle of both is the first
+/// node's, and every other one the second's.
 pub fn nodes_are_ends()
     ensures { NodesAreEnds }
 {}
@@ -41,7 +42,7 @@ pub fn bounds_hold_metal()
 {}
 
 /// What a small design comes to by the definitions, from its files to its text: the numbers of a hand computation; the
-/// short, where one of its wires is longer; and the file that isn't there.
+/// short, where two of its wires touch in a corner; and the file that isn't there.
 pub fn example_is_worked()
     ensures { ExampleIsWorked }
 {}

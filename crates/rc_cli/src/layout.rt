@@ -75,7 +75,7 @@ fn above(p: i32, q: i32, by: u32) -> i32
     p.max(q) + by as i32
 }
 
-/// The lower left corner of a wire's rectangle, for the part of the width below and behind its centreline.
+/// The lower left corner of a wire's rectangle, for the part of the width on the left and below.
 fn lower_corner(from: Pt, to: Pt, by: u32) -> Pt
     requires from { IsPoint from }
     requires to { IsPoint to }
@@ -89,7 +89,7 @@ fn lower_corner(from: Pt, to: Pt, by: u32) -> Pt
     }
 }
 
-/// The upper right corner of a wire's rectangle, for the part of the width above and ahead of its centreline.
+/// The upper right corner of a wire's rectangle, for the part of the width on the right and above.
 fn upper_corner(from: Pt, to: Pt, by: u32) -> Pt
     requires from { IsPoint from }
     requires to { IsPoint to }
@@ -103,8 +103,8 @@ fn upper_corner(from: Pt, to: Pt, by: u32) -> Pt
     }
 }
 
-/// The rectangle of a wire's metal, for the width of its layer: half the width, rounded down, below and behind its centreline,
-/// and the rest of the width above and ahead. Lengths are in units of 1/1000 micron.
+/// The rectangle of a wire's metal, for the width of its layer: its centreline, with half the width, rounded down, added on the
+/// left and below, and the rest of the width on the right and above. Lengths are in units of 1/1000 micron.
 pub fn wire_rect(width: u32, wire: &Wire<'_>) -> Rect
     requires { IsLength width }
     ensures is { result ≡ wire_rect_of width wire.now }
@@ -187,6 +187,10 @@ fn tile(net: u32, node: u32, rect: Rect) -> Tile
 
 /// The metal of a layer's wires as tiles on layer 0, two a wire: the parts of its rectangle that are nearer to its first node
 /// and to its second one. The first wire that covers a unit square owns it.
+///
+/// # Errors
+///
+/// `NoMemory` for want of memory.
 pub fn tiles(alloc: Global, width: u32, wires: &[Wire<'_>]) -> Result<List<Tile>, NoMemory>
     requires width { IsLength width }
     requires few { length wires.now < 2 ^ 32 }
@@ -235,8 +239,8 @@ fn hull_of_wires(width: u32, wires: &[Wire<'_>]) -> Rect
     }
 }
 
-/// The smallest rectangle that holds the metal of a layer's wires, within 2^29 of 0 where there is a wire; without wires it has
-/// no extent, at the origin. Lengths are in units of 1/1000 micron.
+/// The smallest rectangle that holds the metal of a layer's wires, within 2^29 + 1 of 0 where there is a wire; without wires it
+/// has no extent, at the origin. Lengths are in units of 1/1000 micron.
 pub fn bounds(width: u32, wires: &[Wire<'_>]) -> Rect
     requires { IsLength width }
     ensures is { (design layer : Elements ℕ) → result ≡ bounds_of (record { design = design; layer = layer; width = width; wires = wires.now }) }

@@ -1,4 +1,4 @@
-//! The program: what it does with its words, its files and its streams.
+//! The program: what it does with its words, its files and its streams. Begin at `run` in `top`; `work` has the order of work.
 #![tactic(auto)]
 
 mod command;

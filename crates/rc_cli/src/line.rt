@@ -1,10 +1,12 @@
+//! The lines on the standard error.
+
 ghost use Rattle.std.specs.Prelude.{◌≡◌, ◌≢◌, ◌⊎◌, ◌≤◌, ◌++◌, codes, IfOk, OnOk};
 ghost use Rattle.rc_io.specs.Causes.{Rose};
 ghost use Rattle.rc_io.specs.Bytes.{grown, GrewByPrefix};
 ghost use Rattle.std.specs.Fmt.{signed_decimal};
 ghost use Rattle.rc_keys.specs.Names.{code_name};
 ghost use Rattle.rc_keys.specs.declared.code.Code.TheVariants as Code;
-ghost use Rattle.rc_cli.specs.Outcome.{form_line as form_line_of, refusal_line};
+ghost use Rattle.rc_cli.specs.Outcome.{bytes_line as bytes_line_of, form_line as form_line_of, refusal_line};
 ghost use Rattle.rc_cli.specs.Answers.{read_fault_line as read_fault_line_of, usage_line, no_memory_line};
 
 use itoa::Buffer;
@@ -14,6 +16,10 @@ use rc_io::{Sink, write_all};
 use std::alloc::Global;
 
 /// The line of a file that failed.
+///
+/// # Errors
+///
+/// `NoMemory` for want of memory.
 pub fn read_fault_line(alloc: Global, name: &str) -> Result<Text, NoMemory>
     ensures { IfOk result (λ line. line ≡ read_fault_line_of name.now) }
 {
@@ -23,7 +29,11 @@ pub fn read_fault_line(alloc: Global, name: &str) -> Result<Text, NoMemory>
     Ok(Text::from_vec(line))
 }
 
-/// The line of a file that hasn't the reduced form.
+/// E04: the line of a file that hasn't the reduced form.
+///
+/// # Errors
+///
+/// `NoMemory` for want of memory.
 pub fn form_line(alloc: Global, name: &str) -> Result<Text, NoMemory>
     ensures { IfOk result (λ line. line ≡ form_line_of name.now) }
 {
@@ -33,8 +43,12 @@ pub fn form_line(alloc: Global, name: &str) -> Result<Text, NoMemory>
     Ok(Text::from_vec(line))
 }
 
-/// The line of two nets that meet on a layer: their names, the layer's, and the lower left corner of what their shapes have in
+/// E13: the line of two nets that meet on a layer: their names, the layer's, and the lower left corner of what their shapes have in
 /// common, in units of 1/1000 micron.
+///
+/// # Errors
+///
+/// `NoMemory` for want of memory.
 pub fn short_line(
     alloc: Global,
     first: &[u8],
@@ -57,6 +71,17 @@ pub fn short_line(
     line.extend_from_slice(Buffer::new().format(corner.y).as_bytes())?;
     line.push(b'\n')?;
     Ok(Text::from_vec(line))
+}
+
+/// E14: the line of files with more bytes than a run may read.
+///
+/// # Errors
+///
+/// `NoMemory` for want of memory.
+pub fn bytes_line(alloc: Global) -> Result<Text, NoMemory>
+    ensures { IfOk result (λ line. line ≡ bytes_line_of) }
+{
+    Text::from(alloc, b"rcx: E14 bytes\n")
 }
 
 /// Tells that the words have no listed form, and answers the status.

@@ -1,6 +1,10 @@
+//! Names and numbers, as words.
+
 ghost use Rattle.std.specs.Prelude.{◌≡◌, ◌≤ℤ◌, negsuc, ◌↔◌, [], IsNone, position, false, ◌<◌, ◌≤◌, ◌+◌, ◌*◌, ◌^◌, ◌==◌, ℕ, pos, neg_ℤ, Option, Some, None, true, map, length, nat_le, ◌&&◌, List, take, IfSome, option_map, if◌then◌else◌};
 ghost use Rattle.std.specs.List.{list_all, before_first, after_first, list_any};
-ghost use Rattle.rc_cli.specs.Numbers.{is_digit as is_digit_byte, is_name_byte as is_name_byte_of, is_name as is_name_word, is_digits as is_digits_word, digits_value as value_of_digits, is_point, whole_part as whole_part_of, fraction_part as fraction_part_of, is_decimal as is_decimal_word, decimal_value as value_of_decimal, decimal_between as number_between, rule_number as rule_number_of, length_in_units as length_of, distance as distance_of, coordinate as coordinate_of};
+ghost use Rattle.std.specs.Str.Parse.{digits_value as value_of_digits};
+ghost use Rattle.rc_fixed.specs.Decimal.{is_point};
+ghost use Rattle.rc_cli.specs.Numbers.{is_digit as is_digit_byte, is_name_byte as is_name_byte_of, is_name as is_name_word, is_digits as is_digits_word, whole_part as whole_part_of, fraction_part as fraction_part_of, is_decimal as is_decimal_word, decimal_value as value_of_decimal, decimal_between as number_between, rule_number as rule_number_of, length_in_units as length_of, distance as distance_of, coordinate as coordinate_of};
 
 fn is_digit(byte: u8) -> bool
     ensures { result ≡ is_digit_byte byte }
@@ -54,7 +58,7 @@ fn is_digits(word: &[u8], most: usize) -> bool
 fn digits_value(digits: &[u8]) -> u64
     requires digits { list_all is_digit_byte digits.now ≡ true }
     requires short { length digits.now ≤ 9 }
-    ensures value { result ≡ value_of_digits digits.now }
+    ensures value { result ≡ value_of_digits 10 digits.now }
     ensures small { result < 10 ^ length digits.now }
 {
     let mut value = 0;
@@ -111,7 +115,7 @@ fn scaled(digits: &[u8], power: u32) -> u64
     requires digits { list_all is_digit_byte digits.now ≡ true }
     requires short { length digits.now ≤ 9 }
     requires power { power ≤ 9 }
-    ensures value { result ≡ value_of_digits digits.now * 10 ^ power }
+    ensures value { result ≡ value_of_digits 10 digits.now * 10 ^ power }
     ensures small { result ≤ 10 ^ 9 * 10 ^ 9 }
 {
     digits_value(digits) * 10_u64.pow(power)

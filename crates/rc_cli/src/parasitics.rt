@@ -90,6 +90,7 @@ impl<'s, 'a> Model for Spef<'s, 'a> {
 }
 
 impl End {
+    /// The node of that number of the net with that name.
     pub fn new(name: u32, node: u32) -> End
         ensures { result ≡ record { name = name; node = node } }
     {
@@ -112,6 +113,7 @@ impl End {
 }
 
 impl Cap {
+    /// A capacitance of so many 10^-15 fF, to ground where there is no other node.
     pub fn new(from: End, to: Option<End>, amount: u128) -> Cap
         ensures { result ≡ record { from = from; to = to; amount = amount } }
     {
@@ -141,6 +143,7 @@ impl Cap {
 }
 
 impl Resistor {
+    /// A resistor of so many 10^-15 ohm.
     pub fn new(from: End, to: End, amount: u128) -> Resistor
         ensures { result ≡ record { from = from; to = to; amount = amount } }
     {
@@ -170,6 +173,7 @@ impl Resistor {
 }
 
 impl NetParasitics {
+    /// What a net has. The total, in 10^-15 fF, is the caller's to sum.
     pub fn new(name: u32, total: u128, caps: List<Cap>, resistors: List<Resistor>) -> NetParasitics
         ensures { result ≡ record { name = name; total = total; caps = caps; resistors = resistors } }
     {
@@ -211,6 +215,7 @@ impl NetParasitics {
 }
 
 impl<'s, 'a> Spef<'s, 'a> {
+    /// The parasitics of a design. Its nets stand in the order of its wires.
     pub fn new(design: &'a [u8], wires: &'s [Wire<'a>], nets: List<NetParasitics>) -> Spef<'s, 'a>
         ensures { result ≡ record { design = design.now; names = map (λ wire. wire.name) wires.now; nets = nets } }
     {

@@ -44,7 +44,7 @@ fn distance_column(rules: &Rules, gap: Option<u32>) -> Option<usize>
 
 /// The numbers of the table for metal so thick: two a distance, and one more.
 fn row(rules: &Rules, thick: u32) -> &[u64]
-    ensures is { result.now ≡ row_of rules.now thick }
+    ensures is { result.now ≡ row_of rules.now rules.now.rows thick }
     ensures columns { length result.now ≡ 2 * length rules.now.distances + 1 }
     ensures numbers { All IsNumber result.now }
 {
@@ -73,6 +73,7 @@ pub struct Rater<'r> {
 }
 
 impl<'r> Rater<'r> {
+    /// Rates faces by these rules.
     pub fn new(rules: &'r Rules) -> Rater<'r>
         ensures { result.rules.now ≡ rules.now }
     {
@@ -97,7 +98,7 @@ impl<'r> FaceRates for Rater<'r> {
         distances[distances.len() - 1]
     }
 
-    #[tactic(auto, unfolding(crate::specs::Rate::rates))]
+    #[tactic(auto, unfolding(crate::specs::Rate::rates), using(crate::proofs::Scales::one_table))]
     fn rate(
         &self,
         _layer: u8,

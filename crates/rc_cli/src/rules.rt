@@ -1,3 +1,5 @@
+//! The reader of the rule file.
+
 ghost use Rattle.std.specs.Prelude.{◌≡◌, Some, None, true, length, IfOk, IfSome, MatchOption};
 ghost use Rattle.std.specs.List.{All};
 ghost use Rattle.rc_cli.specs.Phrases.{on, given, list_by};
@@ -142,6 +144,10 @@ fn next_rows(
 
 impl Rules {
     /// The rules that a rule file gives for this layer. None exactly where the file hasn't the reduced form.
+    ///
+    /// # Errors
+    ///
+    /// `NoMemory` for want of memory.
     pub fn read(alloc: Global, layer: &[u8], text: &[u8]) -> Result<Option<Rules>, NoMemory>
         ensures { IfOk result (λ rules. rules ≡ rules_of layer.now text.now) }
     {
@@ -198,7 +204,7 @@ impl Rules {
         Ok(words.close("END LAYER ; END RULES ;", rules))
     }
 
-    /// The widths that have a row, which rise.
+    /// The widths that have a row, which rise, in units of 1/1000 micron.
     pub fn widths(&self) -> &[u32]
         ensures value { result.now ≡ self.now.widths }
         ensures table { IsTable self.now }
@@ -206,7 +212,7 @@ impl Rules {
         self.widths.items()
     }
 
-    /// The distances that have two columns, which rise.
+    /// The distances that have two columns, which rise, in units of 1/1000 micron.
     pub fn distances(&self) -> &[u32]
         ensures value { result.now ≡ self.now.distances }
         ensures table { IsTable self.now }
@@ -214,7 +220,7 @@ impl Rules {
         self.distances.items()
     }
 
-    /// The resistances, one a width.
+    /// The resistances, one a width, in 10^-9 ohm a micron.
     pub fn resistances(&self) -> &[u64]
         ensures value { result.now ≡ self.now.resistances }
         ensures table { IsTable self.now }
@@ -222,7 +228,7 @@ impl Rules {
         self.resistances.items()
     }
 
-    /// The rows of the table, one a width: two numbers a distance, and one for an open face.
+    /// The rows of the table, one a width: two numbers a distance, and one for an open face, in 10^-9 fF a micron of face.
     pub fn rows(&self) -> &[List<u64>]
         ensures value { result.now ≡ self.now.rows }
         ensures table { IsTable self.now }

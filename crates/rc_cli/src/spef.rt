@@ -1,3 +1,5 @@
+//! The writer of the SPEF text.
+
 ghost use Rattle.std.specs.Prelude.{◌≡◌, ◌∷◌, [], ◌++◌, codes, map, OnOk, IfOk};
 ghost use Rattle.std.specs.Fmt.{decimal};
 ghost use Rattle.std.specs.List.{enumerate_from, flat_map};
@@ -7,160 +9,172 @@ ghost use Rattle.rc_cli.specs.SpefText.{lines, header, section, name_line, name_
 use crate::design::Wire;
 use crate::parasitics::{Cap, End, NetParasitics, Resistor, Spef};
 use itoa::{Buffer, Integer};
-use rc_fixed::{Fixed, NoMemory, Text, digits};
+use rc_fixed::{Fixed, NoMemory, digits};
+use rc_io::{Gather, WriteFault, write_all};
 use std::alloc::Global;
 
+/// Appends bytes.
+fn put(out: &mut Gather, bytes: &[u8]) -> Result<(), NoMemory>
+    ensures { OnOk result (out.new.bytes ≡ out.old.bytes ++ bytes.now) }
+{
+    match write_all(out, bytes) {
+        Ok(()) => Ok(()),
+        Err(WriteFault) => Err(NoMemory),
+    }
+}
+
 /// Appends a whole number.
-fn put_number<I: Integer>(bytes: &mut Vec<u8>, number: I) -> Result<(), NoMemory>
-    ensures { OnOk result (bytes.new.items ≡ bytes.old.items ++ I.text number) }
+fn put_number<I: Integer>(out: &mut Gather, number: I) -> Result<(), NoMemory>
+    ensures { OnOk result (out.new.bytes ≡ out.old.bytes ++ I.text number) }
 {
     let mut buffer = Buffer::new();
-    bytes.extend_from_slice(buffer.format(number).as_bytes())?;
+    put(out, buffer.format(number).as_bytes())?;
     Ok(())
 }
 
 /// Appends a blank and a number of units of 10^-15, and ends the line.
-fn put_amount(bytes: &mut Vec<u8>, amount: u128) -> Result<(), NoMemory>
-    ensures { OnOk result (bytes.new.items ≡ bytes.old.items ++ codes " " ++ decimal_text amount ++ 10 ∷ []) }
+fn put_amount(out: &mut Gather, amount: u128) -> Result<(), NoMemory>
+    ensures { OnOk result (out.new.bytes ≡ out.old.bytes ++ codes " " ++ decimal_text amount ++ 10 ∷ []) }
 {
     let mut buffer = [0; 48];
     let end = digits(Fixed(amount), &mut buffer);
-    bytes.push(b' ')?;
-    bytes.extend_from_slice(&buffer[..end])?;
-    bytes.push(b'\n')?;
+    put(out, b" ")?;
+    put(out, &buffer[..end])?;
+    put(out, b"\n")?;
     Ok(())
 }
 
 /// Appends a node of a net.
-fn put_end(bytes: &mut Vec<u8>, end: End) -> Result<(), NoMemory>
-    ensures { OnOk result (bytes.new.items ≡ bytes.old.items ++ end_text end) }
+fn put_end(out: &mut Gather, end: End) -> Result<(), NoMemory>
+    ensures { OnOk result (out.new.bytes ≡ out.old.bytes ++ end_text end) }
 {
-    bytes.extend_from_slice(b" *")?;
-    put_number(bytes, end.name())?;
-    bytes.push(b':')?;
-    put_number(bytes, end.node())
+    put(out, b" *")?;
+    put_number(out, end.name())?;
+    put(out, b":")?;
+    put_number(out, end.node())
 }
 
 /// Appends a node, where there is one.
-fn put_optional_end(bytes: &mut Vec<u8>, end: Option<End>) -> Result<(), NoMemory>
-    ensures { OnOk result (bytes.new.items ≡ bytes.old.items ++ optional_end_text end) }
+fn put_optional_end(out: &mut Gather, end: Option<End>) -> Result<(), NoMemory>
+    ensures { OnOk result (out.new.bytes ≡ out.old.bytes ++ optional_end_text end) }
 {
     match end {
         None => Ok(()),
-        Some(end) => put_end(bytes, end),
+        Some(end) => put_end(out, end),
     }
 }
 
 /// Appends the line of a capacitance.
-fn put_cap(bytes: &mut Vec<u8>, number: usize, cap: &Cap) -> Result<(), NoMemory>
-    ensures { OnOk result (bytes.new.items ≡ bytes.old.items ++ cap_line (number, cap.now) ++ 10 ∷ []) }
+fn put_cap(out: &mut Gather, number: usize, cap: &Cap) -> Result<(), NoMemory>
+    ensures { OnOk result (out.new.bytes ≡ out.old.bytes ++ cap_line (number, cap.now) ++ 10 ∷ []) }
 {
-    put_number(bytes, number)?;
-    put_end(bytes, cap.from())?;
-    put_optional_end(bytes, cap.to())?;
-    put_amount(bytes, cap.amount())
+    put_number(out, number)?;
+    put_end(out, cap.from())?;
+    put_optional_end(out, cap.to())?;
+    put_amount(out, cap.amount())
 }
 
 /// Appends the line of a resistor.
-fn put_resistor(bytes: &mut Vec<u8>, number: usize, resistor: &Resistor) -> Result<(), NoMemory>
-    ensures { OnOk result (bytes.new.items ≡ bytes.old.items ++ resistor_line (number, resistor.now) ++ 10 ∷ []) }
+fn put_resistor(out: &mut Gather, number: usize, resistor: &Resistor) -> Result<(), NoMemory>
+    ensures { OnOk result (out.new.bytes ≡ out.old.bytes ++ resistor_line (number, resistor.now) ++ 10 ∷ []) }
 {
-    put_number(bytes, number)?;
-    put_end(bytes, resistor.from())?;
-    put_end(bytes, resistor.to())?;
-    put_amount(bytes, resistor.amount())
+    put_number(out, number)?;
+    put_end(out, resistor.from())?;
+    put_end(out, resistor.to())?;
+    put_amount(out, resistor.amount())
 }
 
 /// Appends the lines of the capacitances, numbered from 1, under their keyword.
-fn put_caps(bytes: &mut Vec<u8>, caps: &[Cap]) -> Result<(), NoMemory>
-    ensures { OnOk result (bytes.new.items ≡ bytes.old.items ++ lines (section (codes "*CAP" ∷ []) (map cap_line (enumerate_from 1 caps.now)))) }
+fn put_caps(out: &mut Gather, caps: &[Cap]) -> Result<(), NoMemory>
+    ensures { OnOk result (out.new.bytes ≡ out.old.bytes ++ lines (section (codes "*CAP" ∷ []) (map cap_line (enumerate_from 1 caps.now)))) }
 {
     if caps.is_empty() {
         return Ok(());
     }
-    bytes.extend_from_slice(b"*CAP\n")?;
+    put(out, b"*CAP\n")?;
     let mut number = 0;
     for cap in caps {
         number += 1;
-        put_cap(bytes, number, cap)?;
+        put_cap(out, number, cap)?;
     }
     Ok(())
 }
 
 /// Appends the lines of the resistors, numbered from 1, under their keyword.
-fn put_resistors(bytes: &mut Vec<u8>, resistors: &[Resistor]) -> Result<(), NoMemory>
-    ensures { OnOk result (bytes.new.items ≡ bytes.old.items ++ lines (section (codes "*RES" ∷ []) (map resistor_line (enumerate_from 1 resistors.now)))) }
+fn put_resistors(out: &mut Gather, resistors: &[Resistor]) -> Result<(), NoMemory>
+    ensures { OnOk result (out.new.bytes ≡ out.old.bytes ++ lines (section (codes "*RES" ∷ []) (map resistor_line (enumerate_from 1 resistors.now)))) }
 {
     if resistors.is_empty() {
         return Ok(());
     }
-    bytes.extend_from_slice(b"*RES\n")?;
+    put(out, b"*RES\n")?;
     let mut number = 0;
     for resistor in resistors {
         number += 1;
-        put_resistor(bytes, number, resistor)?;
+        put_resistor(out, number, resistor)?;
     }
     Ok(())
 }
 
 /// Appends the block of a net.
-fn put_net(bytes: &mut Vec<u8>, net: &NetParasitics) -> Result<(), NoMemory>
-    ensures { OnOk result (bytes.new.items ≡ bytes.old.items ++ lines (net_block net.now)) }
+fn put_net(out: &mut Gather, net: &NetParasitics) -> Result<(), NoMemory>
+    ensures { OnOk result (out.new.bytes ≡ out.old.bytes ++ lines (net_block net.now)) }
 {
-    bytes.extend_from_slice(b"\n*D_NET *")?;
-    put_number(bytes, net.name())?;
-    put_amount(bytes, net.total())?;
-    put_caps(bytes, net.caps())?;
-    put_resistors(bytes, net.resistors())?;
-    bytes.extend_from_slice(b"*END\n")?;
+    put(out, b"\n*D_NET *")?;
+    put_number(out, net.name())?;
+    put_amount(out, net.total())?;
+    put_caps(out, net.caps())?;
+    put_resistors(out, net.resistors())?;
+    put(out, b"*END\n")?;
     Ok(())
 }
 
 /// Appends the blocks of the nets.
-fn put_nets(bytes: &mut Vec<u8>, nets: &[NetParasitics]) -> Result<(), NoMemory>
-    ensures { OnOk result (bytes.new.items ≡ bytes.old.items ++ lines (flat_map net_block nets.now)) }
+fn put_nets(out: &mut Gather, nets: &[NetParasitics]) -> Result<(), NoMemory>
+    ensures { OnOk result (out.new.bytes ≡ out.old.bytes ++ lines (flat_map net_block nets.now)) }
 {
     for net in nets {
-        put_net(bytes, net)?;
+        put_net(out, net)?;
     }
     Ok(())
 }
 
 /// Appends the line of a name.
-fn put_name(bytes: &mut Vec<u8>, number: usize, name: &[u8]) -> Result<(), NoMemory>
-    ensures { OnOk result (bytes.new.items ≡ bytes.old.items ++ name_line (number, name.now) ++ 10 ∷ []) }
+fn put_name(out: &mut Gather, number: usize, name: &[u8]) -> Result<(), NoMemory>
+    ensures { OnOk result (out.new.bytes ≡ out.old.bytes ++ name_line (number, name.now) ++ 10 ∷ []) }
 {
-    bytes.push(b'*')?;
-    put_number(bytes, number)?;
-    bytes.push(b' ')?;
-    bytes.extend_from_slice(name)?;
-    bytes.push(b'\n')?;
+    put(out, b"*")?;
+    put_number(out, number)?;
+    put(out, b" ")?;
+    put(out, name)?;
+    put(out, b"\n")?;
     Ok(())
 }
 
 /// Appends the map of names: a line for each wire's name, numbered from 1.
-fn put_names(bytes: &mut Vec<u8>, wires: &[Wire<'_>]) -> Result<(), NoMemory>
-    ensures { OnOk result (bytes.new.items ≡ bytes.old.items ++ lines (name_map (map (λ wire. wire.name) wires.now))) }
+fn put_names(out: &mut Gather, wires: &[Wire<'_>]) -> Result<(), NoMemory>
+    ensures { OnOk result (out.new.bytes ≡ out.old.bytes ++ lines (name_map (map (λ wire. wire.name) wires.now))) }
 {
     if wires.is_empty() {
         return Ok(());
     }
-    bytes.extend_from_slice(b"\n*NAME_MAP\n")?;
+    put(out, b"\n*NAME_MAP\n")?;
     let mut number = 0;
     for wire in wires {
         number += 1;
-        put_name(bytes, number, wire.name())?;
+        put_name(out, number, wire.name())?;
     }
     Ok(())
 }
 
 /// Appends the header.
-fn put_header(bytes: &mut Vec<u8>, design: &[u8]) -> Result<(), NoMemory>
-    ensures { OnOk result (bytes.new.items ≡ bytes.old.items ++ lines (header design.now)) }
+fn put_header(out: &mut Gather, design: &[u8]) -> Result<(), NoMemory>
+    ensures { OnOk result (out.new.bytes ≡ out.old.bytes ++ lines (header design.now)) }
 {
-    bytes.extend_from_slice(b"*SPEF \"IEEE 1481-1998\"\n*DESIGN \"")?;
-    bytes.extend_from_slice(design)?;
-    bytes.extend_from_slice(
+    put(out, b"*SPEF \"IEEE 1481-1998\"\n*DESIGN \"")?;
+    put(out, design)?;
+    put(
+        out,
         b"\"\n\
         *DATE \"Thu Jan 1 00:00:00 1970\"\n\
         *VENDOR \"rcx\"\n\
@@ -178,13 +192,17 @@ fn put_header(bytes: &mut Vec<u8>, design: &[u8]) -> Result<(), NoMemory>
     Ok(())
 }
 
-/// The text of a SPEF file: the header, the map of names, and a block for each net.
-pub fn write(alloc: Global, spef: &Spef<'_, '_>) -> Result<Text, NoMemory>
-    ensures { IfOk result (λ text. text ≡ spef_text spef.now) }
+/// Gathers the text of a SPEF file: the header, the map of names, and a block for each net.
+///
+/// # Errors
+///
+/// `NoMemory` for want of memory.
+pub fn write(alloc: Global, spef: &Spef<'_, '_>) -> Result<Gather, NoMemory>
+    ensures { IfOk result (λ out. out.bytes ≡ spef_text spef.now) }
 {
-    let mut bytes = Vec::new(alloc);
-    put_header(&mut bytes, spef.design())?;
-    put_names(&mut bytes, spef.wires())?;
-    put_nets(&mut bytes, spef.nets())?;
-    Ok(Text::from_vec(bytes))
+    let mut out = Gather::new(alloc);
+    put_header(&mut out, spef.design())?;
+    put_names(&mut out, spef.wires())?;
+    put_nets(&mut out, spef.nets())?;
+    Ok(out)
 }

@@ -1,3 +1,5 @@
+//! The reader of the LEF file.
+
 ghost use Rattle.std.specs.Prelude.{◌≡◌};
 ghost use Rattle.rc_cli.specs.TechForm.{tech_of, tech_of_words};
 

@@ -1,3 +1,5 @@
+//! The top call: what a run answers and writes.
+
 ghost use Rattle.std.specs.Prelude.{◌≡◌, ◌⊎◌, ◌<◌, List, ℕ, Option, Some, None, map, IsTrue};
 ghost use Rattle.std.specs.String.{string_bytes};
 ghost use Rattle.rc_io.specs.Causes.{Rose};
@@ -41,7 +43,7 @@ pub fn run<R: Threads + Sync, F: Files, O: Sink, E: Sink>(
     // 1: the words have no listed form.
     ensures usage { result ≡ 1 → (extract_of (map string_bytes words.now) ≡ None)
         × WroteLine (sinks (O.written out.old) (O.written out.new) (E.written err.old) (E.written err.new)) usage_line }
-    ensures listed { extract_of (map string_bytes words.now) ≡ None → (result ≡ 1) ⊎ (result ≡ 4) ⊎ (result ≡ 5) }
+    ensures listed { extract_of (map string_bytes words.now) ≡ None → (result ≡ 1) ⊎ (result ≡ 4) }
 
     // 0: all was done. Over files that tell, the text is the one that they come to.
     ensures done { result ≡ 0 → (text : List ℕ)
@@ -70,6 +72,11 @@ pub fn run<R: Threads + Sync, F: Files, O: Sink, E: Sink>(
     ensures memory { result ≡ 5
         → WroteLine (sinks (O.written out.old) (O.written out.new) (E.written err.old) (E.written err.new)) no_memory_line }
 
+    // For every sink: nothing is written to out but at 0 and 4, nothing to err at 0, and at 4 to one of both alone.
+    ensures out_kept { (result ≡ 1) ⊎ (result ≡ 2) ⊎ (result ≡ 3) ⊎ (result ≡ 5) → out.new ≡ out.old }
+    ensures err_kept { result ≡ 0 → err.new ≡ err.old }
+    ensures one_sink { result ≡ 4 → (out.new ≡ out.old) ⊎ (err.new ≡ err.old) }
+
     // What the words and the files come to is told, unless a file or a sink fails or memory runs out.
     ensures complete { (asked : Asked) → extract_of (map string_bytes words.now) ≡ Some asked → IsTrue (F.tells files.old)
         → NoFileFailed (sources (F.tells files.old) (F.text files.old) (F.faults files.old) (F.faults files.new)) asked
@@ -81,7 +88,7 @@ pub fn run<R: Threads + Sync, F: Files, O: Sink, E: Sink>(
         return tell_usage(err);
     };
     match work(alloc, files, &asked) {
-        Ok(text) => match write_all(out, text.bytes()) {
+        Ok(gathered) => match write_all(out, gathered.bytes()) {
             Ok(()) => 0,
             Err(WriteFault) => 4,
         },

@@ -1,3 +1,5 @@
+//! The words of a text.
+
 ghost use Rattle.std.specs.Prelude.{◌≡◌, ◌<◌, ◌↔◌, [], ◌∷◌, ℕ, List, Some, None, length, not, position, IsTrue, IfSome, MatchOption};
 ghost use Rattle.std.specs.List.{list_all, position_or_len, starts_with};
 ghost use Rattle.std.specs.Str.{bytes_eq};

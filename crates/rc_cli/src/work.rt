@@ -1,5 +1,7 @@
+//! The order of work: reads the files, refuses them (E04, E13, E14), or gathers the text.
+
 ghost use Rattle.std.specs.Prelude.{◌≡◌, ◌≤◌, ◌<◌, ◌^◌, List as Bytes, ℕ, Some, slice_get, [], length, IsTrue, IfOk, IfErr};
-ghost use Rattle.rc_cli.specs.Outcome.{Done, outcome, extracted, bytes_line, form_line as form_line_of, short_line as short_line_of};
+ghost use Rattle.rc_cli.specs.Outcome.{Done, outcome, extracted, bytes_line as bytes_line_of, form_line as form_line_of, short_line as short_line_of};
 ghost use Rattle.std.specs.Option.{option_map_or};
 ghost use Rattle.rc_cli.specs.Ranges.{IsLength};
 ghost use Rattle.rc_cli.specs.Parasitics.{extraction};
@@ -13,12 +15,12 @@ use crate::command::{Extract, FileWord};
 use crate::design::{Design, Wire};
 use crate::gathered::extract;
 use crate::layout::{Short, bounds, first_short, tiles};
-use crate::line::{form_line, short_line};
+use crate::line::{bytes_line, form_line, short_line};
 use crate::rules::Rules;
 use crate::spef::write;
 use crate::tech::Tech;
 use rc_fixed::{List, NoMemory, Text};
-use rc_io::{Files, ReadEnd, read_whole};
+use rc_io::{Files, Gather, ReadEnd, read_whole};
 use std::alloc::Global;
 
 /// Why the work gives no text.
@@ -43,17 +45,17 @@ impl From<NoMemory> for Stop {
 /// The most bytes that all files of a run may have.
 const MOST_BYTES: u64 = 1 << 30;
 
-/// The refusal of more bytes than a run may read.
+/// E14: the refusal of more bytes than a run may read.
 fn refused_bytes(alloc: Global) -> Stop
-    ensures { IsRefusedBy bytes_line result }
+    ensures { IsRefusedBy bytes_line_of result }
 {
-    match Text::from(alloc, b"rcx: E14 bytes\n") {
+    match bytes_line(alloc) {
         Ok(line) => Stop::Refused(line),
         Err(NoMemory) => Stop::NoMemory,
     }
 }
 
-/// The refusal of a file that hasn't the reduced form.
+/// E04: the refusal of a file that hasn't the reduced form.
 fn refused_form(alloc: Global, name: &str) -> Stop
     ensures { IsRefusedBy (form_line_of name.now) result }
 {
@@ -97,7 +99,7 @@ fn name_of<'a>(wires: &[Wire<'a>], number: u32) -> &'a [u8]
     }
 }
 
-/// The refusal of two nets that meet.
+/// E13: the refusal of two nets that meet.
 fn refused_short(alloc: Global, tech: &Tech<'_>, design: &Design<'_>, short: &Short) -> Stop
     ensures { IsRefusedBy (short_line_of (linked tech.now design.now) short.now) result }
 {
@@ -109,16 +111,16 @@ fn refused_short(alloc: Global, tech: &Tech<'_>, design: &Design<'_>, short: &Sh
     }
 }
 
-/// The text of a layout without shorts.
+/// Gathers the text of a layout without shorts.
 fn text_of(
     alloc: Global,
     tech: &Tech<'_>,
     design: &Design<'_>,
     rules: &Rules,
-) -> Result<Text, NoMemory>
+) -> Result<Gather, NoMemory>
     requires width { IsLength tech.now.width }
     requires few { length design.now.wires ≤ 16 }
-    ensures { IfOk result (λ text. text ≡ spef_text (extraction (linked tech.now design.now) rules.now)) }
+    ensures { IfOk result (λ gathered. gathered.bytes ≡ spef_text (extraction (linked tech.now design.now) rules.now)) }
 {
     let tiles = tiles(alloc, tech.width(), design.wires())?;
     let area = bounds(tech.width(), design.wires());
@@ -126,25 +128,34 @@ fn text_of(
     write(alloc, &spef)
 }
 
-/// What a layout comes to by rules: its text, or the refusal of its first short.
-fn finish(alloc: Global, tech: &Tech<'_>, design: &Design<'_>, rules: &Rules) -> Result<Text, Stop>
+/// What a layout comes to by rules: its gathered text, or the refusal of its first short.
+fn finish(
+    alloc: Global,
+    tech: &Tech<'_>,
+    design: &Design<'_>,
+    rules: &Rules,
+) -> Result<Gather, Stop>
     requires width { IsLength tech.now.width }
     requires few { length design.now.wires ≤ 16 }
-    ensures text { IfOk result (λ text. extracted (linked tech.now design.now) rules.now (first_short_of (linked tech.now design.now)) ≡ Done text) }
+    ensures text { IfOk result (λ gathered. extracted (linked tech.now design.now) rules.now (first_short_of (linked tech.now design.now)) ≡ Done gathered.bytes) }
     ensures stopped { IfErr result (IsUnextracted (linked tech.now design.now) rules.now) }
 {
     if let Some(short) = first_short(tech.width(), design.wires()) {
         return Err(refused_short(alloc, tech, design, &short));
     }
     match text_of(alloc, tech, design, rules) {
-        Ok(text) => Ok(text),
+        Ok(gathered) => Ok(gathered),
         Err(NoMemory) => Err(Stop::NoMemory),
     }
 }
 
-/// Reads the files in the order of work, and gives the text that they come to.
-pub fn work<F: Files>(alloc: Global, files: &mut F, asked: &Extract<'_>) -> Result<Text, Stop>
-    ensures text { IfOk result (λ text. IsTrue (F.tells files.old) → outcome (F.text files.old) asked.now ≡ Done text) }
+/// Reads the files in the order of work, and gathers the text that they come to.
+///
+/// # Errors
+///
+/// Why there is no text: the first refusal, the word of a file that failed, or want of memory.
+pub fn work<F: Files>(alloc: Global, files: &mut F, asked: &Extract<'_>) -> Result<Gather, Stop>
+    ensures text { IfOk result (λ gathered. IsTrue (F.tells files.old) → outcome (F.text files.old) asked.now ≡ Done gathered.bytes) }
     ensures stopped { IfErr result (λ why. HasStopped (sources (F.tells files.old) (F.text files.old) (F.faults files.old) (F.faults files.new)) asked.now why) }
 {
     let name = asked.name(FileWord::Lef);

@@ -12,4 +12,4 @@ loop-cap-preserved c = record {
 
 pub returns : goal.returns
 returns c =
-    section_all cap_line (codes "*CAP" ∷ []) c.args.caps.now c.loop-cap.cap-index c.args.bytes.now.items _ (sym c.is_empty.ensures ∙ c.if-is_empty.false) c.loop-cap-test.false c.loop-cap.invariant.text
+    section_all cap_line (codes "*CAP" ∷ []) c.args.caps.now c.loop-cap.cap-index c.args.out.now.bytes _ (sym c.is_empty.ensures ∙ c.if-is_empty.false) c.loop-cap-test.false c.loop-cap.invariant.text

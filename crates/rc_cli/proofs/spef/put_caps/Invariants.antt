@@ -7,5 +7,5 @@ use Rattle.rc_cli.proofs.spef.put_caps.Given as goal
 abbrev pub invariant-loop-cap : goal.invariant-loop-cap
 invariant-loop-cap l = record {
   count : l.number ≡ l.cap-index;
-  text : l.bytes.items ≡ l.fn.bytes.items ++ codes "*CAP\n" ++ lines (map cap_line (enumerate_from 1 (take l.cap-index l.caps)));
+  text : l.out.bytes ≡ l.fn.out.bytes ++ codes "*CAP\n" ++ lines (map cap_line (enumerate_from 1 (take l.cap-index l.caps)));
 }

@@ -3,4 +3,4 @@ use Rattle.rc_cli.proofs.spef.put_header.Goals as goal
 
 pub returns : goal.returns
 returns c =
-    rw (c.in_ok-extend_from_slice-3.ensures.items, c.in_ok-extend_from_slice-2.ensures.items, c.in_ok-extend_from_slice.ensures.items) (header_text c.args.design.now c.args.bytes.now.items)
+    rw (c.in_ok-put-3.ensures, c.in_ok-put-2.ensures, c.in_ok-put.ensures) (header_text c.args.design.now c.args.out.now.bytes)

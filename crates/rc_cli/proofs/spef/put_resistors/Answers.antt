@@ -12,4 +12,4 @@ loop-resistor-preserved c = record {
 
 pub returns : goal.returns
 returns c =
-    section_all resistor_line (codes "*RES" ∷ []) c.args.resistors.now c.loop-resistor.resistor-index c.args.bytes.now.items _ (sym c.is_empty.ensures ∙ c.if-is_empty.false) c.loop-resistor-test.false c.loop-resistor.invariant.text
+    section_all resistor_line (codes "*RES" ∷ []) c.args.resistors.now c.loop-resistor.resistor-index c.args.out.now.bytes _ (sym c.is_empty.ensures ∙ c.if-is_empty.false) c.loop-resistor-test.false c.loop-resistor.invariant.text

@@ -7,5 +7,5 @@ use Rattle.rc_cli.proofs.spef.put_resistors.Given as goal
 abbrev pub invariant-loop-resistor : goal.invariant-loop-resistor
 invariant-loop-resistor l = record {
   count : l.number ≡ l.resistor-index;
-  text : l.bytes.items ≡ l.fn.bytes.items ++ codes "*RES\n" ++ lines (map resistor_line (enumerate_from 1 (take l.resistor-index l.resistors)));
+  text : l.out.bytes ≡ l.fn.out.bytes ++ codes "*RES\n" ++ lines (map resistor_line (enumerate_from 1 (take l.resistor-index l.resistors)));
 }
