@@ -18,7 +18,7 @@ use crate::rules::Rules;
 use crate::tech::Tech;
 use rc_fixed::{List, NoMemory};
 use rc_geom::{Key, Rect, Tile};
-use rc_squares::{Entry, Metal, sums_in};
+use rc_squares::{Entry, Metal, pair_key, same_key, sums_in};
 use std::alloc::Global;
 
 /// A design on a layer, its rules, and the sums of all keys that have a part.
@@ -33,47 +33,14 @@ pub struct Gathered<'g, 'a> {
     ghost amounts: { HoldsAmounts (linked tech.now design.now) rules.now entries.now },
 }
 
-/// Whether both keys are one.
-fn same_key(a: Key, b: Key) -> bool
-    ensures { result ≡ same_key_of a b }
-{
-    a == b
-}
-
 /// The value of a key's entry. None where the key has no entry.
 fn value_at(entries: &[Entry], key: Key) -> Option<u128>
     ensures { result ≡ entry_value entries.now key }
 {
-    match entries {
-        [first, others @ ..] => {
-            if same_key(key, first.key) {
-                return Some(first.value);
-            }
-            value_at(others, key)
-        }
-        [] => None,
-    }
-}
-
-/// The key of two nodes, the one of the lower net first.
-fn pair_key(a: Metal, b: Metal) -> Key
-    ensures { result ≡ pair_key_of a b }
-{
-    if a.0 < b.0 {
-        Key::Pair {
-            net: a.0,
-            node: a.1,
-            other: b.0,
-            onode: b.1,
-        }
-    } else {
-        Key::Pair {
-            net: b.0,
-            node: b.1,
-            other: a.0,
-            onode: a.1,
-        }
-    }
+    entries
+        .iter()
+        .find(|entry| same_key(key, entry.key))
+        .map(|entry| entry.value)
 }
 
 /// The end that is a node of a net. Nets are numbered from 0, and names from 1.

@@ -17,6 +17,7 @@ mod tests;
 
 pub use entries::{Entry, sums_in};
 pub use faces::{Face, Seen, context, face_at, sight, thickness};
+pub use parts::pair_key;
 pub use rates::FaceRates;
 pub use square::{Metal, metal_at};
-pub use sums::{Sum, key_sum, sum_in};
+pub use sums::{Sum, key_sum, same_key, sum_in};

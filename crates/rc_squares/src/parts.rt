@@ -40,8 +40,8 @@ fn node_key(metal: Metal) -> Option<Key>
     }
 }
 
-/// The key of two nodes of different nets.
-fn pair_key(a: Metal, b: Metal) -> Key
+/// The key of two nodes of different nets, the one of the lower net first.
+pub fn pair_key(a: Metal, b: Metal) -> Key
     ensures { result ≡ pair_key_of a b }
 {
     let (lower, higher) = if a.0 < b.0 { (a, b) } else { (b, a) };

@@ -40,7 +40,7 @@ fn plus(a: Sum, b: Sum) -> Sum
 }
 
 /// Whether two keys are one.
-fn same_key(a: Key, b: Key) -> bool
+pub fn same_key(a: Key, b: Key) -> bool
     ensures { result ≡ same_key_of a b }
 {
     a == b
