@@ -1,3 +1,12 @@
 pub mod Behind
 pub mod Reading
 pub mod Writing
+pub mod Cuts
+pub mod Scales
+pub mod Numbers
+pub mod Lengths
+pub mod Wholes
+pub mod Exact
+pub mod Tests
+pub mod Members
+pub mod Rising

@@ -12,9 +12,10 @@ use Rattle.std.proofs.lemmas.Str.Parse.{digit_at}
 use Rattle.std.specs.Char.{digit_value}
 use Rattle.std.specs.Fmt.{decimal}
 use Rattle.std.specs.Int.{IsInRange}
-use Rattle.std.specs.List.{position_or_len}
+use Rattle.std.specs.List.{before_first, after_first, position_or_len}
 use Rattle.std.specs.Str.Parse.{AllDigits, digits_value, digits_value_after}
-use Rattle.rc_fixed.specs.Decimal.{digits_behind, fraction_text, decimal_text, decimal_value, worth_behind, is_point, IsWholePart, ReadsBack, TellsApart, IsPlain}
+use Rattle.rc_fixed.specs.Decimal.{digits_behind, fraction_text, decimal_text, decimal_value, worth_behind, is_point, IsWholePart}
+use Rattle.rc_fixed.specs.Laws.{TellsApart, IsPlain}
 use Rattle.rc_fixed.specs.Decimal.IsPlainDecimal.{whole, pointed}
 use Rattle.rc_fixed.proofs.Behind.{fraction_text-pointed, pow_ten-pos, digits_behind-zero, digits_behind-suc}
 
@@ -28,7 +29,7 @@ digit_value-written d small =
 spread : (n v p : ℕ) → (n * 10 + v) * p ≡ n * (p * 10) + v * p
 spread n v p = grind arith
 
-digits_value_after-is : (n : ℕ) (ds : List ℕ) → digits_value_after 10 n ds ≡ n * 10 ^ length ds + digits_value 10 ds
+pub digits_value_after-is : (n : ℕ) (ds : List ℕ) → digits_value_after 10 n ds ≡ n * 10 ^ length ds + digits_value 10 ds
 digits_value_after-is n [] = omega arith
 digits_value_after-is n (c ∷ cs) =
     let whole = digits_value_after-is (n * 10 + digit_value c) cs in
@@ -136,18 +137,33 @@ unfolding worth_at
 worth_of text before behind place at front back =
     ap (worth_at text) at ∙ (ap (λ ds. digits_value 10 ds * 10 ^ 15 + worth_behind (drop (place + 1) text)) front ∙ ap (λ ds. digits_value 10 before * 10 ^ 15 + worth_behind ds) back)
 
+-- digits alone have no point
+at_whole : (ds : List ℕ) → AllDigits 10 ds → position_or_len is_point ds ≡ length ds
+at_whole ds all = position_or_len_is is_point ds (length ds) 0 (omega arith) (no_point ds all) (λ past. absurd (omega arith))
+
+pub front_whole : (ds : List ℕ) → AllDigits 10 ds → before_first is_point ds ≡ ds
+front_whole ds all = ap (λ n. take n ds) (at_whole ds all) ∙ take_all (length ds) ds (omega arith)
+
+pub back_whole : (ds : List ℕ) → AllDigits 10 ds → after_first is_point ds ≡ []
+back_whole ds all = ap (λ n. drop (n + 1) ds) (at_whole ds all) ∙ drop_all (length ds + 1) ds (omega arith)
+
+-- the point behind digits
+at_pointed : (ds behind : List ℕ) → AllDigits 10 ds → position_or_len is_point (ds ++ 46 ∷ behind) ≡ length ds
+at_pointed ds behind all = position_or_len_is is_point (ds ++ 46 ∷ behind) (length ds) 0 (omega (arith, length-append ds (46 ∷ behind))) (λ k below. ap is_point (get_or_append_left ds (46 ∷ behind) 0 k below) ∙ no_point ds all k below) (λ _. ap is_point (get_or_at ds 46 behind 0 (length ds) refl))
+
+pub front_pointed : (ds behind : List ℕ) → AllDigits 10 ds → before_first is_point (ds ++ 46 ∷ behind) ≡ ds
+front_pointed ds behind all = ap (λ n. take n (ds ++ 46 ∷ behind)) (at_pointed ds behind all) ∙ take_at ds (46 ∷ behind) (length ds) refl
+
+pub back_pointed : (ds behind : List ℕ) → AllDigits 10 ds → after_first is_point (ds ++ 46 ∷ behind) ≡ behind
+back_pointed ds behind all = ap (λ n. drop (n + 1) (ds ++ 46 ∷ behind)) (at_pointed ds behind all) ∙ drop-append-add ds (46 ∷ behind) 1
+
 -- digits alone are all before the point
 pub reads_whole : (ds : List ℕ) → AllDigits 10 ds → decimal_value ds ≡ digits_value 10 ds * 10 ^ 15
-reads_whole ds all =
-    let at : position_or_len is_point ds ≡ length ds = position_or_len_is is_point ds (length ds) 0 (omega arith) (no_point ds all) (λ past. absurd (omega arith)) in
-    worth_of ds ds [] (length ds) at (take_all (length ds) ds (omega arith)) (drop_all (length ds + 1) ds (omega arith)) ∙ omega arith
+reads_whole ds all = worth_of ds ds [] (length ds) (at_whole ds all) (take_all (length ds) ds (omega arith)) (drop_all (length ds + 1) ds (omega arith)) ∙ omega arith
 
 -- the digits before the point, and those behind it
 pub reads_pointed : (ds behind : List ℕ) → AllDigits 10 ds → decimal_value (ds ++ 46 ∷ behind) ≡ digits_value 10 ds * 10 ^ 15 + worth_behind behind
-reads_pointed ds behind all =
-    let text : List ℕ = ds ++ 46 ∷ behind in
-    let at : position_or_len is_point text ≡ length ds = position_or_len_is is_point text (length ds) 0 (omega (arith, length-append ds (46 ∷ behind))) (λ k below. ap is_point (get_or_append_left ds (46 ∷ behind) 0 k below) ∙ no_point ds all k below) (λ _. ap is_point (get_or_at ds 46 behind 0 (length ds) refl)) in
-    worth_of text ds behind (length ds) at (take_at ds (46 ∷ behind) (length ds) refl) (drop-append-add ds (46 ∷ behind) 1)
+reads_pointed ds behind all = worth_of (ds ++ 46 ∷ behind) ds behind (length ds) (at_pointed ds behind all) (take_at ds (46 ∷ behind) (length ds) refl) (drop-append-add ds (46 ∷ behind) 1)
 
 -- no number but 0 begins with a 0
 record Starts (n : ℕ) (ds : List ℕ) : Type 0 where
@@ -187,7 +203,8 @@ text_whole value none = ap (λ rest. decimal (value / 10 ^ 15) ++ fraction_text 
 pub text_pointed : (value : ℕ) → value % 10 ^ 15 ≢ 0 → decimal_text value ≡ decimal (value / 10 ^ 15) ++ 46 ∷ digits_behind 15 (value % 10 ^ 15)
 text_pointed value some = ap (λ ds. decimal (value / 10 ^ 15) ++ ds) (fraction_text-pointed (value % 10 ^ 15) some)
 
-pub reads_back : ReadsBack
+-- what is written has the number for its value
+pub reads_back : (value : ℕ) → value < 2 ^ 128 → decimal_value (decimal_text value) ≡ value
 reads_back value small =
     let low : value / 10 ^ 15 < 10 ^ 24 = whole_part-lt value small in
     let whole = decimal_is_IsNumeral_wide (value / 10 ^ 15) (omega arith) in

@@ -10,17 +10,17 @@ use Rattle.std.proofs.lemmas.Str.Parse.{digit_from_value}
 use Rattle.std.specs.Char.{digit_value}
 use Rattle.std.specs.Fmt.{decimal}
 use Rattle.std.specs.Str.Parse.{AllDigits, digits_value}
-use Rattle.rc_fixed.specs.Decimal.{digits_behind, decimal_text, decimal_value, worth_behind, IsWholePart, IsFraction, WritesBack}
+use Rattle.rc_fixed.specs.Decimal.{digits_behind, decimal_text, decimal_value, worth_behind, IsPlainDecimal, IsWholePart, IsFraction}
 use Rattle.rc_fixed.specs.Decimal.IsPlainDecimal.{whole, pointed}
 use Rattle.rc_fixed.proofs.Behind.{pow_ten-pos, digits_behind-zero, digits_behind-suc}
 use Rattle.rc_fixed.proofs.Reading.{digits_value-cons, weigh, reads_whole, reads_pointed, whole_part, text_whole, text_pointed}
 
 -- a multiple and what is less than the factor come apart again
-record ComesApart (d p r : ℕ) : Type 0 where
-  front : (d * p + r) / p ≡ d
-  back : (d * p + r) % p ≡ r
+pub record ComesApart (d p r : ℕ) : Type 0 where
+  pub front : (d * p + r) / p ≡ d
+  pub back : (d * p + r) % p ≡ r
 
-comes_apart : (d p r : ℕ) → r < p → ComesApart d p r
+pub comes_apart : (d p r : ℕ) → r < p → ComesApart d p r
 comes_apart d p r small =
     let positive : 0 < p = omega arith in
     record {
@@ -154,6 +154,7 @@ pointed_back ds behind front back small =
     ∙ (ap (λ ds'. decimal n ++ 46 ∷ ds') written
     ∙ ap (λ ds'. ds' ++ 46 ∷ behind) (decimal-worth ds front (omega arith)))))
 
-pub writes_back : WritesBack
+-- a plain decimal is what is written for its value
+pub writes_back : (text : List ℕ) → IsPlainDecimal text → decimal_value text < 2 ^ 128 → decimal_text (decimal_value text) ≡ text
 writes_back text (whole {digits} front) small = whole_back digits front small
 writes_back text (pointed {digits} {behind} front back) small = pointed_back digits behind front back small

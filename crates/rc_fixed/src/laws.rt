@@ -1,9 +1,14 @@
 //! What holds of the definitions that the contracts cite. Nothing is computed here.
-ghost use Rattle.rc_fixed.specs.Decimal.{ReadsBack, TellsApart, IsPlain, WritesBack};
+ghost use Rattle.rc_fixed.specs.Laws.{ReadsBack, GivesBack, TellsApart, IsPlain, WritesBack};
 
-/// The text of a number reads as that number.
+/// The text of a number is a decimal, and exactly that number.
 pub fn decimal_reads_back()
     ensures { ReadsBack }
+{}
+
+/// `parse_fixed` with shift 0 gives a number back from its text, up to the largest number that it takes.
+pub fn decimal_gives_back()
+    ensures { GivesBack }
 {}
 
 /// No two numbers have one text.

@@ -1,6 +1,6 @@
 //! Lists that contracts see as their items.
 
-ghost use Rattle.std.specs.Prelude.{◌≡◌, [], ◌∷◌, ◌++◌, ◌<◌, ◌↔◌, IsTrue, length, slice_get, slice_set, IsNone, IfSome, IfNone, OnOk, OnErr};
+ghost use Rattle.std.specs.Prelude.{◌≡◌, [], ◌∷◌, ◌++◌, ◌<◌, ◌↔◌, IsTrue, length, take, slice_get, slice_set, IsNone, IfOk, IfSome, IfNone, OnOk, OnErr};
 
 use crate::NoMemory;
 use std::alloc::Global;
@@ -32,6 +32,23 @@ impl<T> List<T> {
         List {
             items: Vec::new(alloc),
         }
+    }
+
+    /// A list without items, with room for so many: the first pushes up to there take no memory.
+    pub fn with_capacity(alloc: Global, capacity: usize) -> Result<List<T>, NoMemory>
+        ensures { IfOk result (λ list. list ≡ []) }
+    {
+        let items = Vec::with_capacity(alloc, capacity)?;
+        Ok(List { items })
+    }
+
+    /// Makes room for so many items more, so that the pushes up to there take no memory. The items stay, also where there
+    /// is no memory for the room.
+    pub fn reserve(&mut self, additional: usize) -> Result<(), NoMemory>
+        ensures { self.new ≡ self.old }
+    {
+        self.items.reserve(additional)?;
+        Ok(())
     }
 
     /// The items that stand in this vector, without a copy.
@@ -95,6 +112,30 @@ impl<T: Drop> List<T> {
         ensures err { OnErr result (self.new ≡ self.old) }
     {
         self.items.push(item)?;
+        Ok(())
+    }
+
+    /// Drops all items. The memory stays.
+    pub fn clear(&mut self)
+        ensures { self.new ≡ [] }
+    {
+        self.items.clear();
+    }
+
+    /// Keeps the first so many items, and drops the rest.
+    pub fn truncate(&mut self, len: usize)
+        ensures { self.new ≡ take len self.old }
+    {
+        self.items.truncate(len);
+    }
+
+    /// Moves the items of another list to the end, so that it has none left. Where there is no memory for them, both lists
+    /// are as before.
+    pub fn append(&mut self, other: &mut List<T>) -> Result<(), NoMemory>
+        ensures ok { OnOk result ((self.new ≡ self.old ++ other.old) × (other.new ≡ [])) }
+        ensures err { OnErr result ((self.new ≡ self.old) × (other.new ≡ other.old)) }
+    {
+        self.items.append(&mut other.items)?;
         Ok(())
     }
 }

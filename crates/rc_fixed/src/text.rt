@@ -1,54 +1,88 @@
 //! Texts of bytes.
 
-ghost use Rattle.std.specs.Prelude.{◌≡◌, IfOk};
+ghost use Rattle.std.specs.Prelude.{◌≡◌, ◌≤◌, [], length, IsOk, IfOk};
 
 use crate::NoMemory;
+use crate::word::{ROOM, Word};
 use std::alloc::Global;
 use std::marker::Model;
 
-/// Bytes of any value, kept in memory of their own. Contracts see the list of the bytes.
+/// Where the bytes of a text stand.
+#[derive(Debug, Drop)]
+enum Kept {
+    /// In the text itself.
+    Within(Word),
+    /// In memory of their own.
+    Apart(Vec<u8>),
+}
+
+/// Bytes of any value. Contracts see the list of them.
+///
+/// Up to 22 bytes stand in the text itself, more in memory of their own. A text takes 32 bytes beside that memory.
 #[derive(Debug, Drop)]
 pub struct Text {
-    bytes: Vec<u8>,
+    kept: Kept,
 }
+
+const _: () = prove!(size_of::<Text>() == 32);
 
 impl Model for Text {
     ghost use Rattle.std.specs.Prelude.{List, ℕ};
+    ghost use Rattle.rc_fixed.specs.Texts.{kept_bytes};
 
     ghost Value = { List ℕ };
 
-    ghost view = { λ text. text.bytes.items };
+    ghost view = { λ text. kept_bytes text.kept };
 }
 
 impl Text {
-    /// A copy of these bytes.
-    pub fn from(alloc: Global, bytes: &[u8]) -> Result<Text, NoMemory>
-        ensures { IfOk result (λ text. text ≡ bytes.now) }
+    /// No bytes. It takes no memory.
+    pub fn new(_alloc: Global) -> Text
+        ensures { result ≡ [] }
     {
+        Text {
+            kept: Kept::Within(Word::of(&[])),
+        }
+    }
+
+    /// A copy of these bytes. Up to 22 take no memory, and so never want any.
+    pub fn from(alloc: Global, bytes: &[u8]) -> Result<Text, NoMemory>
+        ensures copy { IfOk result (λ text. text ≡ bytes.now) }
+        ensures short { length bytes.now ≤ 22 → IsOk result }
+    {
+        if bytes.len() <= ROOM {
+            return Ok(Text {
+                kept: Kept::Within(Word::of(bytes)),
+            });
+        }
+        let bytes = Vec::from_slice(alloc, bytes)?;
         Ok(Text {
-            bytes: Vec::from_slice(alloc, bytes)?,
+            kept: Kept::Apart(bytes),
         })
     }
 
-    /// The bytes that stand in this vector, without a copy.
+    /// The bytes of this vector: more than 22 without a copy, fewer out of its memory, which is given back.
     pub fn from_vec(bytes: Vec<u8>) -> Text
         ensures { result ≡ bytes.items }
     {
-        Text { bytes }
-    }
-
-    /// The vector that holds the bytes, without a copy.
-    pub fn into_vec(self) -> Vec<u8>
-        ensures { result.items ≡ self }
-    {
-        self.bytes
+        if bytes.len() <= ROOM {
+            return Text {
+                kept: Kept::Within(Word::of(&bytes)),
+            };
+        }
+        Text {
+            kept: Kept::Apart(bytes),
+        }
     }
 
     /// The bytes, first to last.
     pub fn bytes(&self) -> &[u8]
         ensures { result.now ≡ self.now }
     {
-        &self.bytes
+        match &self.kept {
+            Kept::Within(word) => word.bytes(),
+            Kept::Apart(bytes) => bytes,
+        }
     }
 }
 
@@ -63,7 +97,7 @@ impl PartialEq for Text {
     ghost laws = { Prim.search (comparing, rules) };
 
     fn eq(&self, other: &Text) -> bool {
-        self.bytes == other.bytes
+        self.bytes() == other.bytes()
     }
 }
 

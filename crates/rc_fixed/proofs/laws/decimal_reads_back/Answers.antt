@@ -1,4 +1,4 @@
-use Rattle.rc_fixed.proofs.Reading.{reads_back}
+use Rattle.rc_fixed.proofs.Exact.{reads_back}
 use Rattle.rc_fixed.proofs.laws.decimal_reads_back.Goals as goal
 
 pub returns : goal.returns

@@ -1,4 +1,4 @@
-use Rattle.rc_fixed.proofs.Writing.{writes_back}
+use Rattle.rc_fixed.proofs.Exact.{writes_back}
 use Rattle.rc_fixed.proofs.laws.decimal_writes_back.Goals as goal
 
 pub returns : goal.returns
