@@ -1,0 +1,138 @@
+//! Whole files, one of each format.
+
+/// A technology of three routing layers, in LEF.
+pub const TECHNOLOGY: &str = "\
+UNITS DATABASE MICRONS 1000 ; END UNITS
+LAYER m1 TYPE ROUTING ; WIDTH 0.1 ; END m1
+LAYER v1 TYPE CUT ; END v1
+LAYER m2 TYPE ROUTING ; WIDTH 0.1 ; END m2
+LAYER v2 TYPE CUT ; END v2
+LAYER m3 TYPE ROUTING ; WIDTH 0.1 ; END m3
+VIA V12 DEFAULT
+LAYER m1 ; RECT -0.05 -0.05 0.05 0.05 ;
+LAYER v1 ; RECT -0.025 -0.025 0.025 0.025 ;
+LAYER m2 ; RECT -0.05 -0.05 0.05 0.05 ;
+END V12
+VIA V23 DEFAULT
+LAYER m2 ; RECT -0.05 -0.05 0.05 0.05 ;
+LAYER v2 ; RECT -0.025 -0.025 0.025 0.025 ;
+LAYER m3 ; RECT -0.05 -0.05 0.05 0.05 ;
+END V23
+END LIBRARY
+";
+
+/// A cell, in LEF.
+pub const CELLS: &str = "\
+MACRO BUF
+SIZE 1 BY 2 ;
+PIN A DIRECTION INPUT ; PORT LAYER m1 ; RECT 0.1 0.2 0.3 0.4 ; END END A
+PIN Y DIRECTION OUTPUT ; PORT LAYER m1 ; RECT 0.7 1.5 0.9 1.7 ; END END Y
+END BUF
+END LIBRARY
+";
+
+/// Rules for three layers.
+pub const RULES: &str = "\
+RCXRULES 1 ;
+LAYER m1 ; WIDTHS 0.1 0.2 ; DISTS 0.1 0.3 ; RES 2 1 ;
+TABLE UNDER NONE OVER NONE ;
+ROW 0.1 0.2 0.15 0.1 0.3 ;
+ROW 0.2 0.3 0.25 0.2 0.4 ;
+END LAYER ;
+LAYER m2 ; WIDTHS 0.1 0.2 ; DISTS 0.1 0.3 ; RES 1 0.5 ;
+TABLE UNDER NONE OVER NONE ;
+ROW 0.1 0.2 0.15 0.1 0.3 ;
+ROW 0.2 0.3 0.25 0.2 0.4 ;
+TABLE UNDER m1 OVER NONE ;
+ROW 0.3 0.1 0.35 0.05 0.5 ;
+ROW 0.4 0.2 0.45 0.1 0.6 ;
+END LAYER ;
+LAYER m3 ; WIDTHS 0.1 0.2 ; DISTS 0.1 0.3 ; RES 2 1 ;
+TABLE UNDER NONE OVER NONE ;
+ROW 0.1 0.2 0.15 0.1 0.3 ;
+ROW 0.2 0.3 0.25 0.2 0.4 ;
+END LAYER ;
+VIA v1 10 ;
+VIA v2 10 ;
+CONTACT 5 ;
+END RULES ;
+";
+
+/// A design of two wires, in DEF.
+pub const TWO_WIRES: &str = "\
+VERSION 5.8 ;
+DESIGN t ;
+UNITS DISTANCE MICRONS 1000 ;
+NETS 2 ;
+- a + ROUTED m1 ( 0 0 ) ( 1000 0 ) ;
+- b + ROUTED m1 ( 0 200 ) ( 1000 200 ) ;
+END NETS
+END DESIGN
+";
+
+/// A design with what routers write and readers read over, in DEF.
+pub const TOP: &str = "\
+VERSION 5.8 ;
+DIVIDERCHAR \"/\" ;
+BUSBITCHARS \"[]\" ;
+DESIGN top ;
+UNITS DISTANCE MICRONS 1000 ;
+DIEAREA ( 0 0 ) ( 10000 10000 ) ;
+VIAS 1 ;
+- via1_2 + VIARULE G12 + CUTSIZE 50 50 + LAYERS m1 v1 m2
+  + CUTSPACING 50 50 + ENCLOSURE 25 25 25 25 + ROWCOL 1 2 ;
+END VIAS
+PINS 1 ;
+- d\\[0\\] + NET d\\[0\\] + DIRECTION INPUT + USE SIGNAL
+  + PORT + LAYER m1 ( -50 -50 ) ( 50 50 ) + PLACED ( 0 0 ) N ;
+END PINS
+NETS 1 ;
+- d\\[0\\] ( PIN d\\[0\\] ) + USE SIGNAL
+  + ROUTED m1 TAPER ( 0 0 50 ) ( 1000 * ) via1_2
+    NEW m2 ( 1000 0 ) MASK 1 ( * 1000 0 ) RECT ( -100 -50 100 50 )
+  + PROPERTY note \"x ; y\" ;
+END NETS
+END DESIGN
+";
+
+/// The parasitics of two wires, in SPEF.
+pub const PARASITICS: &str = "\
+*SPEF \"IEEE 1481-1998\"
+*DESIGN \"t\"
+*DATE \"Thu Jan 1 00:00:00 1970\"
+*VENDOR \"rcx\"
+*PROGRAM \"rcx\"
+*VERSION \"1\"
+*DESIGN_FLOW \"NAME_SCOPE LOCAL\" \"PIN_CAP NONE\"
+*DIVIDER /
+*DELIMITER :
+*BUS_DELIMITER [ ]
+*T_UNIT 1 PS
+*C_UNIT 1 FF
+*R_UNIT 1 OHM
+*L_UNIT 1 HENRY
+
+*NAME_MAP
+*1 a
+*2 b
+
+*D_NET *1 0.96
+*CAP
+1 *1:1 0.26
+2 *1:2 0.26
+3 *1:1 *2:1 0.22
+4 *1:2 *2:2 0.22
+*RES
+1 *1:1 *1:2 2
+*END
+
+*D_NET *2 0.96
+*CAP
+1 *2:1 0.26
+2 *2:2 0.26
+3 *2:1 *1:1 0.22
+4 *2:2 *1:2 0.22
+*RES
+1 *2:1 *2:2 2
+*END
+";
