@@ -1,12 +1,12 @@
 -- The common part of two rectangles.
-use Rattle.std.proofs.Common.{◌≡◌, ℤ, ◌≤ℤ◌, ◌<ℤ◌, true, false, sym, ap, ◌∙◌, arith}
+use Rattle.std.proofs.Common.{◌≡◌, ℕ, ℤ, pos, ◌+ℤ◌, ◌-ℤ◌, ◌≤ℤ◌, ◌<ℤ◌, true, false, sym, ap, ◌∙◌, arith}
 use Rattle.std.specs.Prelude.{int_lt, int_le, IsTrue, ◌↔◌}
 use Rattle.std.specs.Int.{int_max, int_min}
 use Rattle.std.proofs.lemmas.Int.{ints, clamps}
 use Rattle.std.proofs.lemmas.Bool.{and_parts, and_from}
 use Rattle.rc_geom.specs.declared.rect.Pt.{Pt}
 use Rattle.rc_geom.specs.declared.rect.Rect.{Rect}
-use Rattle.rc_geom.specs.Rects.{common_part, has_squares, has_points, SharesSquare, IsLowestCommon, IsApart}
+use Rattle.rc_geom.specs.Rects.{grow, common_part, has_squares, has_points, SharesSquare, IsLowestCommon, IsApart}
 use Rattle.rc_geom.proofs.Bounds.{lt_tells, le_tells, lt_passes, le_passes, covered, covers_from, touched, touches_from}
 
 -- the corner of the common part
@@ -68,3 +68,6 @@ lowest_common_at a b part p is h px py =
 
 pub apart_at : (a b part : Rect) → part ≡ common_part a b → has_points part ≡ false → IsApart a b
 apart_at a b part is h = apart a b (sym (ap has_points is) ∙ h)
+
+pub grown_is : (r : Rect) (n : ℕ) (x0 y0 x1 y1 : ℤ) → x0 ≡ r.x0 -ℤ pos n → y0 ≡ r.y0 -ℤ pos n → x1 ≡ r.x1 +ℤ pos n → y1 ≡ r.y1 +ℤ pos n → record { x0 = x0; y0 = y0; x1 = x1; y1 = y1 } ≡ grow r n
+grown_is r n x0 y0 x1 y1 h i j k = cc

@@ -9,7 +9,7 @@ use Rattle.rc_geom.proofs.Areas.{run_sound}
 use Rattle.rc_geom.proofs.Totals.{total_none, total_suc, total_same, total_sound, total_between_same, total_between_sound, total_between_nothing, extent_is}
 
 -- the terms from 0, and those after the first a of them
-total_split : {V : Type 0} (adding : Adding V) (sound : V → Bool) → IsAdditive adding sound → (a n : ℕ) (f : ℕ → V) → ((k : ℕ) → sound (f k) ≡ true) → total adding (a + n) f ≡ adding.plus (total adding a f) (total adding n (λ k. f (a + k)))
+pub total_split : {V : Type 0} (adding : Adding V) (sound : V → Bool) → IsAdditive adding sound → (a n : ℕ) (f : ℕ → V) → ((k : ℕ) → sound (f k) ≡ true) → total adding (a + n) f ≡ adding.plus (total adding a f) (total adding n (λ k. f (a + k)))
 total_split adding sound laws a zero f each =
     let e : a + 0 ≡ a = omega arith in
     ap (λ (k : ℕ). total adding k f) e
@@ -21,13 +21,13 @@ total_split adding sound laws a (suc n) f each =
     ∙ ap (adding.plus (total adding a f)) (sym (total_suc adding n (suc n) (λ k. f (a + k)) (omega arith)))))
 
 -- two sums of two
-crossed : {V : Type 0} (adding : Adding V) (sound : V → Bool) → IsAdditive adding sound → (a b c d : V) → sound a ≡ true → sound b ≡ true → sound c ≡ true → sound d ≡ true → adding.plus (adding.plus a b) (adding.plus c d) ≡ adding.plus (adding.plus a c) (adding.plus b d)
+pub crossed : {V : Type 0} (adding : Adding V) (sound : V → Bool) → IsAdditive adding sound → (a b c d : V) → sound a ≡ true → sound b ≡ true → sound c ≡ true → sound d ≡ true → adding.plus (adding.plus a b) (adding.plus c d) ≡ adding.plus (adding.plus a c) (adding.plus b d)
 crossed adding sound laws a b c d of_a of_b of_c of_d =
     laws.regroup a b (adding.plus c d) of_a of_b (laws.neutral.closed c d of_c of_d)
     ∙ (ap (adding.plus a) (sym (laws.regroup b c d of_b of_c of_d) ∙ (ap (λ v. adding.plus v d) (laws.swap b c of_b of_c) ∙ laws.regroup c b d of_c of_b of_d))
     ∙ sym (laws.regroup a c (adding.plus b d) of_a of_c (laws.neutral.closed b d of_b of_d)))
 
-total_plus : {V : Type 0} (adding : Adding V) (sound : V → Bool) → IsAdditive adding sound → (n : ℕ) (f g : ℕ → V) → ((k : ℕ) → sound (f k) ≡ true) → ((k : ℕ) → sound (g k) ≡ true) → total adding n (λ k. adding.plus (f k) (g k)) ≡ adding.plus (total adding n f) (total adding n g)
+pub total_plus : {V : Type 0} (adding : Adding V) (sound : V → Bool) → IsAdditive adding sound → (n : ℕ) (f g : ℕ → V) → ((k : ℕ) → sound (f k) ≡ true) → ((k : ℕ) → sound (g k) ≡ true) → total adding n (λ k. adding.plus (f k) (g k)) ≡ adding.plus (total adding n f) (total adding n g)
 total_plus adding sound laws zero f g of_f of_g =
     total_none adding (λ k. adding.plus (f k) (g k))
     ∙ (sym (laws.neutral.before adding.none laws.neutral.start)
@@ -39,7 +39,7 @@ total_plus adding sound laws (suc n) f g of_f of_g =
     ∙ (ap (λ v. adding.plus v (adding.plus (total adding n g) (g n))) (sym (total_suc adding n (suc n) f (omega arith)))
     ∙ ap (adding.plus (total adding (suc n) f)) (sym (total_suc adding n (suc n) g (omega arith))))))
 
-total_between_split : {V : Type 0} (adding : Adding V) (sound : V → Bool) → IsAdditive adding sound → (lo mid hi : ℤ) (f : ℤ → V) → ((z : ℤ) → sound (f z) ≡ true) → lo ≤ℤ mid → mid ≤ℤ hi → total_between adding lo hi f ≡ adding.plus (total_between adding lo mid f) (total_between adding mid hi f)
+pub total_between_split : {V : Type 0} (adding : Adding V) (sound : V → Bool) → IsAdditive adding sound → (lo mid hi : ℤ) (f : ℤ → V) → ((z : ℤ) → sound (f z) ≡ true) → lo ≤ℤ mid → mid ≤ℤ hi → total_between adding lo hi f ≡ adding.plus (total_between adding lo mid f) (total_between adding mid hi f)
 total_between_split adding sound laws lo mid hi f each low high =
     let a = extent lo mid in
     let n = extent mid hi in
@@ -51,7 +51,7 @@ total_between_split adding sound laws lo mid hi f each low high =
     ∙ (total_split adding sound laws a n (λ k. f (lo +ℤ pos k)) (λ k. each (lo +ℤ pos k))
     ∙ ap (adding.plus (total_between adding lo mid f)) (total_same adding n (λ k. f (lo +ℤ pos (a + k))) (λ k. f (mid +ℤ pos k)) (λ k _. ap f (omega (arith, ints, is_a)))))
 
-total_between_plus : {V : Type 0} (adding : Adding V) (sound : V → Bool) → IsAdditive adding sound → (lo hi : ℤ) (f g : ℤ → V) → ((z : ℤ) → sound (f z) ≡ true) → ((z : ℤ) → sound (g z) ≡ true) → total_between adding lo hi (λ z. adding.plus (f z) (g z)) ≡ adding.plus (total_between adding lo hi f) (total_between adding lo hi g)
+pub total_between_plus : {V : Type 0} (adding : Adding V) (sound : V → Bool) → IsAdditive adding sound → (lo hi : ℤ) (f g : ℤ → V) → ((z : ℤ) → sound (f z) ≡ true) → ((z : ℤ) → sound (g z) ≡ true) → total_between adding lo hi (λ z. adding.plus (f z) (g z)) ≡ adding.plus (total_between adding lo hi f) (total_between adding lo hi g)
 total_between_plus adding sound laws lo hi f g of_f of_g = total_plus adding sound laws (extent lo hi) (λ k. f (lo +ℤ pos k)) (λ k. g (lo +ℤ pos k)) (λ k. of_f (lo +ℤ pos k)) (λ k. of_g (lo +ℤ pos k))
 
 -- ---- two orders

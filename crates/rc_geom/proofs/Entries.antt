@@ -5,6 +5,7 @@ use Rattle.std.specs.Prelude.{All, IfSome, option_map, ◌==◌, ◌&&◌, ◌||
 use Rattle.std.specs.Option.{option_map_or}
 use Rattle.std.proofs.lemmas.Int.{ints}
 use Rattle.std.proofs.lemmas.Bool.{cases_lt, cases_Bool, and_parts, and_from, eqb-true, eq-eqb, true≢false}
+use Rattle.rc_geom.specs.declared.rect.Pt.{Pt}
 use Rattle.rc_geom.specs.declared.rect.Rect.{Rect}
 use Rattle.rc_geom.specs.declared.key.Key.{Key}
 use Rattle.rc_geom.specs.declared.key.Key.TheVariants.{Ground}
@@ -209,17 +210,17 @@ seen_within reach line up z (Some seen) is =
     let first = sight_tells reach (ray up line z) seen.0 seen.1 (sym is) in
     (first.least, first.most)
 
-face_sound : {V W : Type 0} (sound : W → Bool) (worth : V → W) (plane : Plane) (rates : Rates V) (axis layer : ℕ) (at along : ℤ) (up : Bool) (o : Option Face) → 1 ≤ rates.cap layer → RatesAreSound sound worth plane rates → face_of plane rates axis layer at along up ≡ o → IfSome o (λ face. (1 ≤ face.thick) × (face.thick ≤ rates.cap layer)) → All (λ part. sound (worth part.amount) ≡ true) (option_map_or (λ face. parts face (rate_of rates plane layer (square_of axis at along) face)) o [])
-face_sound {V = X} sound worth plane rates axis layer at along up None big each is thick = All-nil (λ (part : Part X). sound (worth part.amount) ≡ true)
-face_sound sound worth plane rates axis layer at along up (Some face) big each is thick =
+face_sound : {V W : Type 0} (sound : W → Bool) (worth : V → W) (plane : Plane) (rates : Rates V) (axis layer : ℕ) (at along : ℤ) (up : Bool) (o : Option Face) → ((p : Pt) → is_some (plane layer p) ≡ true → 1 ≤ rates.cap layer) → RatesAreSound sound worth plane rates → face_of plane rates axis layer at along up ≡ o → All (λ part. sound (worth part.amount) ≡ true) (option_map_or (λ face. parts face (rate_of rates plane layer (square_of axis at along) face)) o [])
+face_sound {V = X} sound worth plane rates axis layer at along up None caps each is = All-nil (λ (part : Part X). sound (worth part.amount) ≡ true)
+face_sound sound worth plane rates axis layer at along up (Some face) caps each is =
     let square = square_of axis at along in
     let line = line_of plane layer axis at in
     let told = face_tells (rates.cap layer) (rates.reach layer) line up along face is in
     let metal : is_some (plane layer square) ≡ true = face_metal (rates.cap layer) (rates.reach layer) line up along (Some face) is tt in
+    let thick = subst (λ (o : Option Face). IfSome o (λ face. (1 ≤ face.thick) × (face.thick ≤ rates.cap layer))) is (faces_are_thick (rates.cap layer) (rates.reach layer) line up along (caps square metal)) in
     let both = each layer square (under plane layer square) (over plane layer square) face.thick (option_map (λ seen. seen.0) face.sight) metal thick.0 thick.1 (seen_within (rates.reach layer) line up along face.sight told.2) in
     parts_are_sound sound worth face (rate_of rates plane layer square face) both.0 both.1
 
 pub sound_rates_suffice : {V W : Type 0} → SoundRatesSuffice V W
 sound_rates_suffice sound worth plane rates caps each axis layer at along up =
     face_sound sound worth plane rates axis layer at along up (face_of plane rates axis layer at along up) (caps layer) each refl
-    (faces_are_thick (rates.cap layer) (rates.reach layer) (line_of plane layer axis at) up along (caps layer))

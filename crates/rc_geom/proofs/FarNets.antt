@@ -1,9 +1,10 @@
 -- A net that is far from a window has no parts there.
 use Rattle.std.proofs.Common.{◌≡◌, ◌≤◌, ◌+◌, ◌⊎◌, inl, inr, ℕ, ℤ, Bool, true, false, cond, [], ◌++◌, Option, Some, None, refl, ap, sym, ◌∙◌, arith}
-use Rattle.std.specs.Prelude.{◌==◌, ◌&&◌, is_some, nat_lt}
+use Rattle.std.specs.Prelude.{◌==◌, ◌&&◌, is_some, nat_lt, All}
 use Rattle.std.specs.Option.{option_map_or, option_and_then}
 use Rattle.std.proofs.lemmas.Int.{ints}
-use Rattle.std.proofs.lemmas.Bool.{and_left, and_right}
+use Rattle.std.proofs.lemmas.Bool.{and_left, and_right, true≢false}
+use Rattle.std.proofs.lemmas.List.Elements.{All-nil, All-cons, All-append}
 use Rattle.rc_geom.specs.declared.rect.Pt.{Pt}
 use Rattle.rc_geom.specs.declared.rect.Rect.{Rect}
 use Rattle.rc_geom.specs.declared.key.Key.{Key}
@@ -14,14 +15,15 @@ use Rattle.rc_geom.specs.Line.{ray, line_of, square_of, at_distance}
 use Rattle.rc_geom.specs.Faces.{Face, Seen, is_net}
 use Rattle.rc_geom.specs.Context.{layer_count}
 use Rattle.rc_geom.specs.Rates.{Rates, rate_of}
-use Rattle.rc_geom.specs.Parts.{part_for, parts, node_key, pair_key, shared_key, foreign_metal, same_key, worth_at}
+use Rattle.rc_geom.specs.Parts.{Part, part_for, parts, node_key, pair_key, shared_key, foreign_metal, same_key, worth_at}
 use Rattle.rc_geom.specs.Sums.{Adding, total_between, first_line, end_line, first_place, end_place, both_directions, layer_sum}
 use Rattle.rc_geom.specs.Extraction.{face_of, parts_of}
-use Rattle.rc_geom.specs.Laws.{HaloReaches, IsOfNet, FarNetsAddNothing}
+use Rattle.rc_geom.specs.Laws.{HaloReaches, IsOfNet, FarNetsAddNothing, FarNetsHaveNoParts}
 use Rattle.rc_geom.proofs.Totals.{total_nothing, total_between_nothing}
 use Rattle.rc_geom.proofs.Areas.{two_nothings, crosses, covers_crossing}
 use Rattle.rc_geom.proofs.Halos.{grown_place, near_low, near_high}
 use Rattle.rc_geom.proofs.Rays.{face_tells, end_tells, ray-start, sight_tells}
+use Rattle.rc_geom.proofs.KeyTests.{itself}
 use Rattle.rc_geom.proofs.Words.{is_key}
 
 -- ---- keys of other nets
@@ -106,3 +108,38 @@ far_nets_add_nothing adding sound worth plane rates axis window halo n key laws 
     (λ along low high.
     let inside = covers_crossing axis window at along (record { line_low = above; line_high = below; place_low = low; place_high = high }) in
     two_nothings adding sound laws (f layer at along) (λ up. face_adds_nothing adding worth plane rates axis window halo n key layer at along up (face_of plane rates axis layer at along up) reaches far of_n inside refl))))
+
+-- ---- parts of faces in the window
+
+-- a key that isn't of the net
+not_of : (n : ℕ) (o : Option Key) → ((key : Key) → IsOfNet n key → is_key key o ≡ false) → (k : Key) → o ≡ Some k → ¬ IsOfNet n k
+not_of n o apart k is of_n = true≢false (sym (ap (is_key k) is ∙ itself k) ∙ apart k of_n)
+
+part_apart : {V : Type 0} (n : ℕ) (v : V) (o : Option Key) → ((key : Key) → IsOfNet n key → is_key key o ≡ false) → All (λ (part : Part V). ¬ IsOfNet n part.key) (part_for v o)
+part_apart n v None apart = All-nil (λ part. ¬ IsOfNet n part.key)
+part_apart n v (Some k) apart = All-cons (λ part. ¬ IsOfNet n part.key) (record { key = k; amount = v }) [] (not_of n (Some k) apart k refl) (All-nil (λ part. ¬ IsOfNet n part.key))
+
+face_has_no_part : {V : Type 0} (plane : Plane) (rates : Rates V) (axis : ℕ) (window : Rect) (halo n : ℕ) (layer : ℕ) (at along : ℤ) (up : Bool) (o : Option Face) → HaloReaches plane rates window halo → ((l : ℕ) (p : Pt) → covers (grow window halo) p ≡ true → is_net n (plane l p) ≡ false) → covers window (square_of axis at along) ≡ true → face_of plane rates axis layer at along up ≡ o →
+    All (λ (part : Part V). ¬ IsOfNet n part.key) (option_map_or (λ face. parts face (rate_of rates plane layer (square_of axis at along) face)) o [])
+face_has_no_part plane rates axis window halo n layer at along up None reaches far inside is = All-nil (λ part. ¬ IsOfNet n part.key)
+face_has_no_part plane rates axis window halo n layer at along up (Some face) reaches far inside is =
+    let square = square_of axis at along in
+    let line = line_of plane layer axis at in
+    let c = crosses axis window at along inside in
+    let told = face_tells (rates.cap layer) (rates.reach layer) line up along face is in
+    let own : plane layer square ≡ Some face.own = sym (ray-start line up along) ∙ (end_tells (ray up line along) face.own told.0).0 in
+    let halos = reaches layer square inside (ap is_some own) in
+    let not_own : (face.own.0 == n) ≡ false = sym (ap (is_net n) own) ∙ far layer square (grown_place axis window halo at along along c (omega (arith, ints)) (omega (arith, ints))) in
+    let rate = rate_of rates plane layer square face in
+    All-append (λ part. ¬ IsOfNet n part.key) (part_for rate.0 (node_key face.own)) (part_for rate.1 (option_and_then (shared_key face.own) (foreign_metal face.own face.sight)))
+    (part_apart n rate.0 (node_key face.own) (λ key of_n. node_differs n key face.own (face.own.1 == 0) of_n not_own))
+    (part_apart n rate.1 (option_and_then (shared_key face.own) (foreign_metal face.own face.sight)) (λ key of_n. share_differs n key face.own (foreign_metal face.own face.sight) of_n not_own (λ b e.
+    let found = foreign_seen face.own face.sight b e in
+    let seen = sight_tells (rates.reach layer) (ray up line along) found.0 b (sym told.2 ∙ found.1) in
+    let near : found.0 + 1 ≤ halo = omega (arith, halos.0, seen.most) in
+    let there = at_distance up along (found.0 + 1) in
+    sym (ap (is_net n) seen.behind) ∙ far layer (square_of axis at there) (grown_place axis window halo at along there c (near_low up along (found.0 + 1) halo near) (near_high up along (found.0 + 1) halo near)))))
+
+pub far_nets_have_no_parts : {V : Type 0} → FarNetsHaveNoParts V
+far_nets_have_no_parts plane rates window halo n axis layer at along up reaches far inside =
+    face_has_no_part plane rates axis window halo n layer at along up (face_of plane rates axis layer at along up) reaches far inside refl

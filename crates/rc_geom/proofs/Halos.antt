@@ -17,10 +17,10 @@ use Rattle.rc_geom.specs.Rates.{Rates}
 use Rattle.rc_geom.specs.Parts.{Part, parts, worth_at}
 use Rattle.rc_geom.specs.Sums.{both_directions, total_between, layer_sum, first_line, end_line, first_place, end_place}
 use Rattle.rc_geom.specs.Extraction.{face_of, parts_of}
-use Rattle.rc_geom.specs.Laws.{HaloReaches, HalosSuffice, NearTilesSuffice, LinesDecide}
+use Rattle.rc_geom.specs.Laws.{HaloReaches, HalosSuffice, HalosKeepFaces, NearTilesSuffice, LinesDecide}
 use Rattle.rc_geom.proofs.Bounds.{covers_from}
 use Rattle.rc_geom.proofs.Owners.{better, claim, better_none, owner-cons}
-use Rattle.rc_geom.proofs.Rays.{faces_are_local}
+use Rattle.rc_geom.proofs.Rays.{faces_are_local, no_face}
 use Rattle.rc_geom.proofs.Totals.{total_same, total_between_same}
 use Rattle.rc_geom.proofs.Areas.{Crosses, crosses, covers_crossing, no_parts}
 
@@ -79,6 +79,39 @@ halos_suffice adding worth plane other rates axis window halo key reaches alike 
     (λ along low high.
     let inside = covers_crossing axis window at along (record { line_low = above; line_high = below; place_low = low; place_high = high }) in
     ap (λ v. adding.plus v (f layer at along true)) (each layer at along inside false) ∙ ap (adding.plus (g layer at along false)) (each layer at along inside true))))
+
+-- the face at a square in the window
+same_face : {V : Type 0} (plane other : Plane) (rates : Rates V) (axis : ℕ) (window : Rect) (halo layer : ℕ) (at along : ℤ) (up : Bool) → HaloReaches plane rates window halo → ((l : ℕ) (p : Pt) → covers (grow window halo) p ≡ true → plane l p ≡ other l p) → covers window (square_of axis at along) ≡ true → (own : Option Metal) → plane layer (square_of axis at along) ≡ own → face_of plane rates axis layer at along up ≡ face_of other rates axis layer at along up
+same_face plane other rates axis window halo layer at along up reaches alike inside None bare =
+    let c = crosses axis window at along inside in
+    let here : plane layer (square_of axis at along) ≡ other layer (square_of axis at along) = alike layer (square_of axis at along) (grown_place axis window halo at along along c (omega (arith, ints)) (omega (arith, ints))) in
+    no_face (rates.cap layer) (rates.reach layer) (line_of plane layer axis at) up along bare
+    ∙ sym (no_face (rates.cap layer) (rates.reach layer) (line_of other layer axis at) up along (sym here ∙ bare))
+same_face plane other rates axis window halo layer at along up reaches alike inside (Some own) metal =
+    let c = crosses axis window at along inside in
+    let halos = reaches layer (square_of axis at along) inside (ap is_some metal) in
+    let near = λ (d : Bool) (k : ℕ) (small : k ≤ halo). alike layer (square_of axis at (at_distance d along k)) (grown_place axis window halo at along (at_distance d along k) c (near_low d along k halo small) (near_high d along k halo small)) in
+    faces_are_local (rates.cap layer) (rates.reach layer) (line_of plane layer axis at) (line_of other layer axis at) up along
+    (λ k most. near up k (omega (arith, halos.0)))
+    (λ k less. near (not up) k (omega (arith, halos.1)))
+
+abbrev below_of : ℕ → (ℕ → Option Metal) → Option ℕ
+below_of layer stack = last_that (λ below. is_some (stack below)) (range_with_len 0 layer)
+
+abbrev above_of : ℕ → (ℕ → Option Metal) → Option ℕ
+above_of layer stack = find (λ above. is_some (stack above)) (range_with_len (layer + 1) (layer_count - (layer + 1)))
+
+pub halos_keep_faces : {V : Type 0} → HalosKeepFaces V
+halos_keep_faces plane other rates window halo axis layer at along up reaches alike inside =
+    let square = square_of axis at along in
+    let c = crosses axis window at along inside in
+    let stacks = λ (l : ℕ). alike l square (grown_place axis window halo at along along c (omega (arith, ints)) (omega (arith, ints))) in
+    record {
+      face = same_face plane other rates axis window halo layer at along up reaches alike inside (plane layer square) refl;
+      below = ap (below_of layer) (λ i l. stacks l i);
+      above = ap (above_of layer) (λ i l. stacks l i);
+      adds = same_parts plane other rates axis window halo layer at along up reaches alike inside (plane layer square) refl;
+    }
 
 -- ---- lines that are alike
 

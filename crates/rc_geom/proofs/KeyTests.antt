@@ -26,7 +26,7 @@ one_key (Pair net node other onode) (Pair net' node' other' onode') h =
 one_key (Ground net node) (Pair net' node' other' onode') h = cc
 one_key (Pair net node other onode) (Ground net' node') h = cc
 
-itself : (a : Key) → same_key a a ≡ true
+pub itself : (a : Key) → same_key a a ≡ true
 itself (Ground net node) = and_from (net == net) (node == node) (eq-eqb net net refl) (eq-eqb node node refl)
 itself (Pair net node other onode) =
     and_from ((net == net) && (node == node)) ((other == other) && (onode == onode))

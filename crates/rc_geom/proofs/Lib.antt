@@ -2,8 +2,10 @@ pub mod Bounds
 pub mod Commons
 pub mod Midpoints
 pub mod Owners
+pub mod Ranges
 pub mod Rays
 pub mod Totals
+pub mod Turns
 pub mod Areas
 pub mod KeyTests
 pub mod KeyOrders
@@ -14,3 +16,4 @@ pub mod Words
 pub mod Entries
 pub mod Facings
 pub mod FarNets
+pub mod Counts

@@ -1,7 +1,6 @@
 -- The owner of a square.
 use Rattle.std.proofs.Common.{◌≡◌, ◌≢◌, ◌≤◌, ◌<◌, ⊎_elim, ℕ, suc, Bool, true, false, cond, List, [], ◌∷◌, ◌++◌, length, get_or, Option, Some, None, refl, ap, sym, ◌∙◌, subst, arith}
 use Rattle.std.specs.Prelude.{All, Contains, MatchOption, nat_lt, ◌==◌, option_map, fold}
-use Rattle.std.specs.List.Sorted.{IsPermutation}
 use Rattle.std.proofs.lemmas.List.{get_or_default}
 use Rattle.std.proofs.lemmas.List.Elements.{All-nil, All-cons, All-weaker, All-contains, Contains-append_cases}
 use Rattle.std.proofs.lemmas.List.Sorted.{IsPermutation-sym, Contains-permutation}
@@ -11,7 +10,7 @@ use Rattle.std.proofs.lemmas.Bool.Decides.{nat_tests}
 use Rattle.rc_geom.specs.declared.rect.Pt.{Pt}
 use Rattle.rc_geom.specs.declared.tile.Tile.{Tile}
 use Rattle.rc_geom.specs.Rects.{covers}
-use Rattle.rc_geom.specs.Plane.{claims, least_of, next_owner, owner, Overlaps, RanksDiffer, NetsApart, NeverOwns}
+use Rattle.rc_geom.specs.Plane.{claims, least_of, next_owner, owner, plane_of, Overlaps, RanksDiffer, NetsApart, NeverOwns}
 use Rattle.rc_geom.specs.Laws.{IsOwner, OwnersAreLeast, OrderIsFree, OwnersSuffice}
 
 -- of two owners the one of less rank, the first where they tie
@@ -27,7 +26,7 @@ pub better_none : (o : Option Tile) → better None o ≡ o
 better_none None = refl
 better_none (Some t) = refl
 
-lesser_assoc : (a b c : Tile) → least_of (Some (least_of (Some a) b)) c ≡ least_of (Some a) (least_of (Some b) c)
+pub lesser_assoc : (a b c : Tile) → least_of (Some (least_of (Some a) b)) c ≡ least_of (Some a) (least_of (Some b) c)
 lesser_assoc a b c = grind (arith, nat_tests)
 
 better_assoc : (best : Option Tile) (t : Tile) (o : Option Tile) → better (Some (least_of best t)) o ≡ better best (better (Some t) o)
@@ -109,13 +108,13 @@ apart_ranks tiles i j t u less within at_t at_u ranks =
     let R : Tile → Tile → Type 0 = λ a b. a.net ≡ b.net → Overlaps a b → a.rank ≢ b.rank in
     subst (λ (b : Tile). R t b) at_u (subst (λ (a : Tile). R a (get_or tiles j t)) at_t (ranks i j t less within))
 
-apart_nets : (tiles : List Tile) (i j : ℕ) (t u : Tile) → i < j → j < length tiles → get_or tiles i t ≡ t → get_or tiles j t ≡ u → NetsApart tiles → t.net ≢ u.net → ¬ Overlaps t u
+pub apart_nets : (tiles : List Tile) (i j : ℕ) (t u : Tile) → i < j → j < length tiles → get_or tiles i t ≡ t → get_or tiles j t ≡ u → NetsApart tiles → t.net ≢ u.net → ¬ Overlaps t u
 apart_nets tiles i j t u less within at_t at_u nets =
     let R : Tile → Tile → Type 0 = λ a b. a.net ≢ b.net → ¬ Overlaps a b in
     subst (λ (b : Tile). R t b) at_u (subst (λ (a : Tile). R a (get_or tiles j t)) at_t (nets i j t less within))
 
 -- two tiles of one rank that cover a square of a layer are one tile
-unique : (tiles : List Tile) (layer : ℕ) (p : Pt) (t u : Tile) → RanksDiffer tiles → NetsApart tiles → Contains tiles t → Contains tiles u → claims layer p t ≡ true → claims layer p u ≡ true → t.rank ≡ u.rank → t ≡ u
+pub unique : (tiles : List Tile) (layer : ℕ) (p : Pt) (t u : Tile) → RanksDiffer tiles → NetsApart tiles → Contains tiles t → Contains tiles u → claims layer p t ≡ true → claims layer p u ≡ true → t.rank ≡ u.rank → t ≡ u
 unique tiles layer p t u ranks nets in_t in_u does_t does_u same =
     let i = in_t.0 in
     let j = in_u.0 in
@@ -139,26 +138,32 @@ unique tiles layer p t u ranks nets in_t in_u does_t does_u same =
     (cases_eq u.net t.net)))
     (cases_order i j)
 
-same_owner : (tiles others : List Tile) (layer : ℕ) (p : Pt) (o q : Option Tile) → RanksDiffer tiles → NetsApart tiles → IsPermutation tiles others → Tells tiles layer p o → Tells others layer p q → q ≡ o
-same_owner tiles others layer p None None ranks nets moved h k = refl
-same_owner tiles others layer p None (Some u) ranks nets moved h k =
-    let inside = Contains-permutation others tiles u (IsPermutation-sym tiles others moved) k.member in
-    let misses : claims layer p u ≡ false = All-contains (λ (v : Tile). claims layer p v ≡ false) tiles u h inside in
+-- what the tiles of two lists have in common: each member of the one is a member of the other
+abbrev pub IsAmong : List Tile → List Tile → Type 0
+IsAmong tiles others = (t : Tile) → Contains tiles t → Contains others t
+
+same_owner : (tiles others : List Tile) (layer : ℕ) (p : Pt) (o q : Option Tile) → RanksDiffer tiles → NetsApart tiles → IsAmong tiles others → IsAmong others tiles → Tells tiles layer p o → Tells others layer p q → q ≡ o
+same_owner tiles others layer p None None ranks nets there back h k = refl
+same_owner tiles others layer p None (Some u) ranks nets there back h k =
+    let misses : claims layer p u ≡ false = All-contains (λ (v : Tile). claims layer p v ≡ false) tiles u h (back u k.member) in
     absurd (true≢false (sym k.covering ∙ misses))
-same_owner tiles others layer p (Some t) None ranks nets moved h k =
-    let inside = Contains-permutation tiles others t moved h.member in
-    let misses : claims layer p t ≡ false = All-contains (λ (v : Tile). claims layer p v ≡ false) others t k inside in
+same_owner tiles others layer p (Some t) None ranks nets there back h k =
+    let misses : claims layer p t ≡ false = All-contains (λ (v : Tile). claims layer p v ≡ false) others t k (there t h.member) in
     absurd (true≢false (sym h.covering ∙ misses))
-same_owner tiles others layer p (Some t) (Some u) ranks nets moved h k =
-    let in_u : Contains tiles u = Contains-permutation others tiles u (IsPermutation-sym tiles others moved) k.member in
-    let in_t : Contains others t = Contains-permutation tiles others t moved h.member in
+same_owner tiles others layer p (Some t) (Some u) ranks nets there back h k =
+    let in_u : Contains tiles u = back u k.member in
     let one : t.rank ≤ u.rank = All-contains (λ (v : Tile). claims layer p v ≡ true → t.rank ≤ v.rank) tiles u h.least in_u k.covering in
-    let two : u.rank ≤ t.rank = All-contains (λ (v : Tile). claims layer p v ≡ true → u.rank ≤ v.rank) others t k.least in_t h.covering in
+    let two : u.rank ≤ t.rank = All-contains (λ (v : Tile). claims layer p v ≡ true → u.rank ≤ v.rank) others t k.least (there t h.member) h.covering in
     ap Some (unique tiles layer p u t ranks nets in_u h.member k.covering h.covering (omega arith))
 
+-- lists with the same members have one plane
+pub members_decide : (tiles others : List Tile) → RanksDiffer tiles → NetsApart tiles → IsAmong tiles others → IsAmong others tiles → plane_of others ≡ plane_of tiles
+members_decide tiles others ranks nets there back = λ i layer p.
+    ap (option_map (λ (t : Tile). (t.net, t.node))) (same_owner tiles others layer p (owner tiles layer p) (owner others layer p) ranks nets there back (owners_are_least tiles layer p) (owners_are_least others layer p)) i
+
 pub order_is_free : OrderIsFree
-order_is_free tiles others ranks nets moved = λ i layer p.
-    ap (option_map (λ (t : Tile). (t.net, t.node))) (same_owner tiles others layer p (owner tiles layer p) (owner others layer p) ranks nets moved (owners_are_least tiles layer p) (owners_are_least others layer p)) i
+order_is_free tiles others ranks nets moved =
+    members_decide tiles others ranks nets (λ t. Contains-permutation tiles others t moved) (λ t. Contains-permutation others tiles t (IsPermutation-sym tiles others moved))
 
 -- ---- tiles that own nothing
 

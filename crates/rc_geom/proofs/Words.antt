@@ -35,7 +35,7 @@ two adding sound laws true false v w h = laws.before v h ∙ sym (laws.after v h
 two adding sound laws false true v w h = refl
 two adding sound laws false false v w h = sym (laws.before adding.none laws.start)
 
-two_parts : {V W : Type 0} (adding : Adding W) (sound : W → Bool) → IsNeutral adding sound → (worth : V → W) (key : Key) (v w : V) (j k : Option Key) → sound (worth v) ≡ true → sound (worth w) ≡ true → worth_at adding worth key (part_for v j ++ part_for w k) ≡ adding.plus (cond (is_key key j) (worth v) adding.none) (cond (is_key key k) (worth w) adding.none)
+pub two_parts : {V W : Type 0} (adding : Adding W) (sound : W → Bool) → IsNeutral adding sound → (worth : V → W) (key : Key) (v w : V) (j k : Option Key) → sound (worth v) ≡ true → sound (worth w) ≡ true → worth_at adding worth key (part_for v j ++ part_for w k) ≡ adding.plus (cond (is_key key j) (worth v) adding.none) (cond (is_key key k) (worth w) adding.none)
 two_parts adding sound laws worth key v w None None h i = sym (laws.before adding.none laws.start)
 two_parts adding sound laws worth key v w None (Some k) h i = two adding sound laws false (same_key k key) (worth v) (worth w) h
 two_parts adding sound laws worth key v w (Some j) None h i = two adding sound laws (same_key j key) false (worth v) (worth w) h

@@ -1,5 +1,6 @@
 -- What holds of the definitions themselves. Each law is the contract of a function of src/laws.rt.
-use Rattle.std.specs.Prelude.{Option, ◌⊎◌, ◌≡◌, ◌≢◌, ◌↔◌, ◌<◌, ◌≤◌, ◌+◌, ℕ, ℤ, neg_ℤ, Bool, true, false, not, List, [], ◌∷◌, ◌++◌, Some, None, IsTrue, is_some, IfSome, IsSomeAnd, MatchOption, All, Contains, filter, ◌≤ℤ◌, ◌&&◌, ◌||◌, if◌then◌else◌}
+use Rattle.std.specs.Prelude.{Option, ◌⊎◌, ◌≡◌, ◌≢◌, ◌↔◌, ◌<◌, ◌≤◌, ◌+◌, ℕ, ℤ, neg_ℤ, Bool, true, false, not, List, [], ◌∷◌, ◌++◌, Some, None, IsTrue, is_some, IfSome, IsSomeAnd, MatchOption, All, Contains, filter, ◌≤ℤ◌, ◌*◌, nat_le, ◌&&◌, ◌||◌, if◌then◌else◌}
+use Rattle.std.specs.List.{sum_by}
 use Rattle.std.specs.List.Sorted.{IsPermutation}
 use Rattle.std.specs.Ordering.{nat_cmp}
 use Rattle.std.specs.Cmp.Lexicographic.{slice_cmp}
@@ -16,8 +17,8 @@ use Rattle.rc_geom.specs.Faces.{Face, face_at, is_net, thickness, sight}
 use Rattle.rc_geom.specs.Context.{layer_count, under, over}
 use Rattle.rc_geom.specs.Rates.{Rates}
 use Rattle.rc_geom.specs.Parts.{pair_key, shared_key, same_key, parts, worth_at, is_metal, sees, sees_grounded}
-use Rattle.rc_geom.specs.Sums.{Adding, IsNeutral, IsAdditive, total, total_between, square_sum}
-use Rattle.rc_geom.specs.Extraction.{face_of, parts_of, sum_in, key_value, key_count, facing_count}
+use Rattle.rc_geom.specs.Sums.{Adding, IsNeutral, IsAdditive, numbers, total, total_between, square_sum, extent, first_line, end_line}
+use Rattle.rc_geom.specs.Extraction.{face_of, parts_of, sum_in, value_in, count_in, key_value, key_count, facing_count}
 
 -- the tile is one of them, covers the square, and none that covers it has a lesser rank
 pub record IsOwner (tiles : List Tile) (layer : ℕ) (p : Pt) (t : Tile) : Type 0 where
@@ -138,10 +139,11 @@ RatesAreSound sound worth plane rates =
     IfSome gap (λ d. (1 ≤ d) × (d ≤ rates.reach layer)) →
     (sound (worth (rates.rate layer below above thick gap).0) ≡ true) × (sound (worth (rates.rate layer below above thick gap).1) ≡ true)
 
--- where these are sound, so is each amount that a face adds
+-- where these are sound, and the caps of such layers are at least 1, so is each amount that a face adds
 abbrev pub SoundRatesSuffice : Type 0 → Type 0 → Type 0
 SoundRatesSuffice V W = (sound : W → Bool) (worth : V → W) (plane : Plane) (rates : Rates V) →
-    ((layer : ℕ) → 1 ≤ rates.cap layer) → RatesAreSound sound worth plane rates → AmountsAreSound sound worth plane rates
+    ((layer : ℕ) (p : Pt) → is_some (plane layer p) ≡ true → 1 ≤ rates.cap layer) →
+    RatesAreSound sound worth plane rates → AmountsAreSound sound worth plane rates
 
 -- two rectangles that hold all metal have the same sums
 abbrev pub MetalBounds : Type 0 → Type 0 → Type 0
@@ -300,3 +302,42 @@ FarNetsAddNothing V W =
     IsNeutral adding sound → HaloReaches plane rates window halo →
     ((layer : ℕ) (p : Pt) → covers (grow window halo) p ≡ true → is_net n (plane layer p) ≡ false) → IsOfNet n key →
     sum_in adding worth plane rates axis window key ≡ adding.none
+
+-- at a place of a line two planes have one face, in one context, and it adds the same parts
+pub record SameFace {V : Type 0} (plane other : Plane) (rates : Rates V) (axis layer : ℕ) (at along : ℤ) (up : Bool) : Type 0 where
+  pub face : face_of plane rates axis layer at along up ≡ face_of other rates axis layer at along up
+  pub below : under plane layer (square_of axis at along) ≡ under other layer (square_of axis at along)
+  pub above : over plane layer (square_of axis at along) ≡ over other layer (square_of axis at along)
+  pub adds : parts_of plane rates axis layer at along up ≡ parts_of other rates axis layer at along up
+
+-- planes that are alike in a window and its halo have the same faces in the window, with the same thickness and sight, in the
+-- same context, and with the same parts
+abbrev pub HalosKeepFaces : Type 0 → Type 0
+HalosKeepFaces V = (plane other : Plane) (rates : Rates V) (window : Rect) (halo axis layer : ℕ) (at along : ℤ) (up : Bool) →
+    HaloReaches plane rates window halo →
+    ((l : ℕ) (p : Pt) → covers (grow window halo) p ≡ true → plane l p ≡ other l p) →
+    covers window (square_of axis at along) ≡ true → SameFace plane other rates axis layer at along up
+
+-- where a window and its halo have no square of a net, no part of a face in the window has a key of that net
+abbrev pub FarNetsHaveNoParts : Type 0 → Type 0
+FarNetsHaveNoParts V = (plane : Plane) (rates : Rates V) (window : Rect) (halo n axis layer : ℕ) (at along : ℤ) (up : Bool) →
+    HaloReaches plane rates window halo →
+    ((l : ℕ) (p : Pt) → covers (grow window halo) p ≡ true → is_net n (plane l p) ≡ false) →
+    covers window (square_of axis at along) ≡ true →
+    All (λ part. ¬ IsOfNet n part.key) (parts_of plane rates axis layer at along up)
+
+-- how many lines of an axis cross the tiles, in all
+abbrev pub line_count : ℕ → List Tile → ℕ
+line_count axis tiles = sum_by (λ t. extent (first_line axis t.rect) (end_line axis t.rect)) tiles
+
+-- a face lies at an end of a tile, on a line that crosses it, and adds at most two parts: so a key has at most four parts for
+-- each line that crosses a tile
+abbrev pub CountsAreBounded : Type 0 → Type 0
+CountsAreBounded V = (tiles : List Tile) (rates : Rates V) (axis : ℕ) (r : Rect) (key : Key) →
+    NetsApart tiles → count_in (plane_of tiles) rates axis r key ≤ 4 * line_count axis tiles
+
+-- where no amount is above a number, a key's value is at most that number for each of its parts
+abbrev pub ValuesFollowCounts : Type 0
+ValuesFollowCounts = (most : ℕ) (plane : Plane) (rates : Rates ℕ) (axis : ℕ) (r : Rect) (key : Key) →
+    AmountsAreSound (λ v. nat_le v most) (λ v. v) plane rates →
+    value_in numbers plane rates axis r key ≤ most * count_in plane rates axis r key

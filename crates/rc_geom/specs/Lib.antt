@@ -1,5 +1,7 @@
 pub mod Rects
 pub mod Split
+pub mod Orients
+pub mod Bounds
 pub mod Plane
 pub mod Line
 pub mod Faces

@@ -1,8 +1,13 @@
 -- Rectangles, and the unit squares and points in them. A unit square is named by its lower left corner.
-use Rattle.std.specs.Prelude.{ℕ, ◌+ℤ◌, ◌-ℤ◌, pos, negsuc, int_lt, int_le, ◌≤ℤ◌, ◌<ℤ◌, ◌^◌, ◌+◌, ◌&&◌, Bool, IsTrue}
+use Rattle.std.specs.Prelude.{ℕ, zero, suc, ℤ, ◌+ℤ◌, ◌-ℤ◌, pos, negsuc, int_lt, int_le, ◌≤ℤ◌, ◌<ℤ◌, ◌^◌, ◌+◌, ◌&&◌, Bool, IsTrue}
 use Rattle.std.specs.Int.{int_max, int_min}
 use Rattle.rc_geom.specs.declared.rect.Pt.{Pt}
 use Rattle.rc_geom.specs.declared.rect.Rect.{Rect}
+
+-- x of a point, or y
+abbrev pub coordinate : ℕ → Pt → ℤ
+coordinate zero p = p.x
+coordinate (suc _) p = p.y
 
 -- the unit square lies in the rectangle
 abbrev pub covers : Rect → Pt → Bool
@@ -64,3 +69,10 @@ pub record IsNearRect (r : Rect) : Type 0 where
   pub below : negsuc (2 ^ 29) ≤ℤ r.y0
   pub high : r.y0 <ℤ r.y1
   pub above : r.y1 ≤ℤ pos (2 ^ 29 + 1)
+
+-- its ends are within 2^30 + 2 of 0
+pub record IsWithinReach (r : Rect) : Type 0 where
+  pub left : negsuc (2 ^ 30 + 1) ≤ℤ r.x0
+  pub right : r.x1 ≤ℤ pos (2 ^ 30 + 2)
+  pub below : negsuc (2 ^ 30 + 1) ≤ℤ r.y0
+  pub above : r.y1 ≤ℤ pos (2 ^ 30 + 2)

@@ -1,9 +1,16 @@
 //! What is proved of the definitions, each law on a function that does nothing.
 
 ghost use Rattle.rc_geom.specs.Line.{Line};
-ghost use Rattle.rc_geom.specs.Laws.{OwnersAreLeast, OrderIsFree, OwnersSuffice, IsMirrored, ThicknessIsARun, FacesAreThick, SightIsFirst, SightIsMutual, FacesAreLocal, UnderIsHighest, OverIsLowest, InnerSumsSuffice, TilesHoldMetal, MetalBounds, ValuesAreBounded, CutsAdd, LayersSwap, LinesDecide, HalosSuffice, NearTilesSuffice, SharesAreMutual, KeysAreTold, KeysHaveAnOrder, NodesInWords, CouplingsInWords, PartsAreSound, SoundRatesSuffice, NodesOwnFaces, PairsFace, FarNetsAddNothing};
+ghost use Rattle.rc_geom.specs.Orients.{PlacesSquares};
+ghost use Rattle.rc_geom.specs.Laws.{OwnersAreLeast, OrderIsFree, OwnersSuffice, IsMirrored, ThicknessIsARun, FacesAreThick, SightIsFirst, SightIsMutual, FacesAreLocal, UnderIsHighest, OverIsLowest, InnerSumsSuffice, TilesHoldMetal, MetalBounds, ValuesAreBounded, CutsAdd, LayersSwap, LinesDecide, HalosSuffice, NearTilesSuffice, SharesAreMutual, KeysAreTold, KeysHaveAnOrder, NodesInWords, CouplingsInWords, PartsAreSound, SoundRatesSuffice, NodesOwnFaces, PairsFace, FarNetsAddNothing, HalosKeepFaces, FarNetsHaveNoParts, CountsAreBounded, ValuesFollowCounts};
 
 use crate::Key;
+
+/// In each orientation unit squares come to unit squares, one to one, and the squares of a rectangle to those of the
+/// rectangle between its placed corners.
+pub fn places_squares()
+    ensures { PlacesSquares }
+{}
 
 /// A square's owner is the tile of least rank among those that cover it; it has none only where no tile covers it.
 pub fn owners_are_least()
@@ -140,8 +147,8 @@ pub fn parts_are_sound<V, W>()
     ensures { PartsAreSound V W }
 {}
 
-/// Where the rates of layers that have metal are sound, at the thicknesses and gaps that faces have, so is each amount
-/// that a face adds.
+/// Where layers that have metal have a cap of at least 1, and sound rates at the thicknesses and gaps that faces have,
+/// each amount that a face adds is sound.
 pub fn sound_rates_suffice<V, W>()
     ensures { SoundRatesSuffice V W }
 {}
@@ -160,4 +167,25 @@ pub fn pairs_face<V>()
 /// Where a window and its halo have no square of a net, the window has no part for a key of that net.
 pub fn far_nets_add_nothing<V, W>()
     ensures { FarNetsAddNothing V W }
+{}
+
+/// Planes that are alike in a window and its halo have the same faces in the window, in the same context and with the same
+/// parts.
+pub fn halos_keep_faces<V>()
+    ensures { HalosKeepFaces V }
+{}
+
+/// Where a window and its halo have no square of a net, no face in the window has a part for a key of that net.
+pub fn far_nets_have_no_parts<V>()
+    ensures { FarNetsHaveNoParts V }
+{}
+
+/// A key has at most four parts for each line of the axis that crosses a tile.
+pub fn counts_are_bounded<V>()
+    ensures { CountsAreBounded V }
+{}
+
+/// Where no amount is above a number, a key's value is at most that number for each of its parts.
+pub fn values_follow_counts()
+    ensures { ValuesFollowCounts }
 {}

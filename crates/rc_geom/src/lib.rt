@@ -8,12 +8,12 @@
 mod key;
 pub mod laws;
 mod midpoint;
+mod orient;
 mod rect;
-#[cfg(test)]
-mod tests;
 mod tile;
 
 pub use key::Key;
 pub use midpoint::split;
-pub use rect::{Pt, Rect, meets, meets_closed};
+pub use orient::{Orient, place, turn};
+pub use rect::{Pt, Rect, coord, grow, meets, meets_closed};
 pub use tile::{Side, Tile};

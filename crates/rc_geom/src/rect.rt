@@ -1,13 +1,22 @@
 //! Points and rectangles.
 
-ghost use Rattle.std.specs.Prelude.{◌≡◌, ◌↔◌, IsTrue, MatchOption};
-ghost use Rattle.rc_geom.specs.Rects.{common_part, has_squares as has_squares_of, has_points as has_points_of, SharesSquare, IsLowestCommon, IsApart};
+ghost use Rattle.std.specs.Prelude.{◌≡◌, ◌<◌, ◌≤ℤ◌, ◌↔◌, pos, IsTrue, MatchOption};
+ghost use Rattle.rc_geom.specs.Rects.{coordinate, common_part, has_squares as has_squares_of, has_points as has_points_of, grow as grown, SharesSquare, IsLowestCommon, IsApart, IsWithinReach};
+ghost use Rattle.rc_geom.specs.Sums.{natural};
 
 /// A point, or the unit square that has it as its lower left corner. Coordinates are in units of the layout.
 #[derive(Clone, Copy, Debug, PartialEq, Eq)]
 pub struct Pt {
     pub x: i32,
     pub y: i32,
+}
+
+/// A coordinate of a point: x for 0, y for 1.
+pub fn coord<const A: usize>(p: Pt) -> i32
+    requires { A < 2 }
+    ensures { result ≡ coordinate A p }
+{
+    if A == 0 { p.x } else { p.y }
 }
 
 /// A rectangle by its lower left and its upper right corner. It has unit squares only where `x0 < x1` and `y0 < y1`.
@@ -72,4 +81,18 @@ pub fn meets_closed(a: Rect, b: Rect) -> Option<Pt>
     let part = common(a, b);
     let touching = has_points(part);
     if touching { Some(corner(part)) } else { None }
+}
+
+/// The rectangle with that much more on each side.
+pub fn grow(r: Rect, by: i32) -> Rect
+    requires by { pos 0 ≤ℤ by }
+    requires within { IsWithinReach (grown r (natural by)) }
+    ensures { result ≡ grown r (natural by) }
+{
+    Rect {
+        x0: r.x0 - by,
+        y0: r.y0 - by,
+        x1: r.x1 + by,
+        y1: r.y1 + by,
+    }
 }

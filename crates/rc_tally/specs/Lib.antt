@@ -1,0 +1,5 @@
+pub mod Amounts
+pub mod Laws
+pub mod Numbers
+pub mod Places
+pub mod Tallies
