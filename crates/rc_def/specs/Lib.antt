@@ -1,0 +1,10 @@
+pub mod Items
+pub mod Drafts
+pub mod Begins
+pub mod Parts
+pub mod Means
+pub mod File
+pub mod Reading
+pub mod Whole
+pub mod Sound
+pub mod Cuts

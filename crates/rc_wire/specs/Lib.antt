@@ -1,0 +1,5 @@
+pub mod Keys
+pub mod Parts
+pub mod Items
+pub mod Paths
+pub mod Reading
