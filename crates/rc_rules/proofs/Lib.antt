@@ -1,0 +1,9 @@
+pub mod Small
+pub mod Starts
+pub mod Lists
+pub mod Turns
+pub mod Taken
+pub mod TakenInBlock
+pub mod Back
+pub mod Files
+pub mod LayersKept

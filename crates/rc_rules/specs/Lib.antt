@@ -1,0 +1,17 @@
+pub mod Raters
+pub mod Keys
+pub mod Numbers
+pub mod Scales
+pub mod RuleFile
+pub mod LookUp
+pub mod Places
+pub mod Blocks
+pub mod Layers
+pub mod Rows
+pub mod Reading
+pub mod Phrases
+pub mod Statements
+pub mod File
+pub mod Rising
+pub mod Looked
+pub mod Kept
