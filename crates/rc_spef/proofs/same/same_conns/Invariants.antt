@@ -1,0 +1,7 @@
+use Rattle.std.proofs.Common.{◌≡◌, drop}
+use Rattle.std.specs.Cmp.Lexicographic.{pointwise}
+use Rattle.rc_spef.specs.SameTests.{same_conn}
+use Rattle.rc_spef.proofs.same.same_conns.Given as goal
+
+abbrev pub invariant-loop-k : goal.invariant-loop-k
+invariant-loop-k l = pointwise (same_conn l.fn.names.ours.now l.fn.names.theirs.now) l.fn.a l.fn.b ≡ pointwise (same_conn l.fn.names.ours.now l.fn.names.theirs.now) (drop l.k l.fn.a) (drop l.k l.fn.b)
