@@ -1,0 +1,5 @@
+pub mod Edges
+pub mod Walks
+pub mod Rows
+pub mod FaceLists
+pub mod Layers

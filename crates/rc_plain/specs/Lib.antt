@@ -1,0 +1,2 @@
+pub mod BothAxes
+pub mod Squares
