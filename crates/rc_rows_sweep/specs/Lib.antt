@@ -1,0 +1,2 @@
+pub mod RowRates
+pub mod Scenes
