@@ -4,3 +4,8 @@ pub mod ItemsRead
 pub mod TextsRead
 pub mod ListsRead
 pub mod PathsRead
+pub mod Ranges
+pub mod Keeping
+pub mod Spelling
+pub mod Formed
+pub mod FormsRead

@@ -3,3 +3,4 @@ pub mod Parts
 pub mod Items
 pub mod Paths
 pub mod Reading
+pub mod Forms

@@ -4,6 +4,7 @@ ghost use Rattle.std.specs.Prelude.{◌≡◌, ◌≤◌, length, true, false, I
 ghost use Rattle.std.specs.List.{All};
 ghost use Rattle.rc_keys.specs.Course.{Turned};
 ghost use Rattle.rc_keys.specs.Slices.{LiesIn};
+ghost use Rattle.rc_wire.specs.Forms.{IsRegular, IsSpecial, IsPathOf};
 ghost use Rattle.rc_wire.specs.Items as items;
 ghost use Rattle.rc_wire.specs.Paths.{path_format};
 ghost use Rattle.rc_wire.specs.Reading.{reader_of, path_begin, path_turn, paths_outcome, words_from, end_line as end_line_of, IsPaths, AnswersPaths};
@@ -150,6 +151,7 @@ fn read_paths(
     requires at { at ≤ length tokens.now }
     ensures outcome { IsPaths at result (paths_outcome is_wide line (end_line_of tokens.now) (words_from text.now tokens.now at)) }
     ensures paths { IfOk result (AnswersPaths is_wide line (words_from text.now tokens.now at) at) }
+    ensures form { IfOk result (λ read. All (IsPathOf is_wide) read.0) }
 {
     let keys = Keys::new();
     let given = Given { alloc, keys: &keys };
@@ -181,6 +183,7 @@ pub fn read_regular(
     requires at { at ≤ length tokens.now }
     ensures outcome { IsPaths at result (paths_outcome false line (end_line_of tokens.now) (words_from text.now tokens.now at)) }
     ensures paths { IfOk result (AnswersPaths false line (words_from text.now tokens.now at) at) }
+    ensures form { IfOk result (λ read. All IsRegular read.0) }
 {
     read_paths(alloc, text, tokens, at, line, false)
 }
@@ -202,6 +205,7 @@ pub fn read_special(
     requires at { at ≤ length tokens.now }
     ensures outcome { IsPaths at result (paths_outcome true line (end_line_of tokens.now) (words_from text.now tokens.now at)) }
     ensures paths { IfOk result (AnswersPaths true line (words_from text.now tokens.now at) at) }
+    ensures form { IfOk result (λ read. All IsSpecial read.0) }
 {
     read_paths(alloc, text, tokens, at, line, true)
 }

@@ -4,6 +4,7 @@ use Rattle.rc_keys.specs.declared.code.Code.TheVariants.{E16}
 use Rattle.rc_keys.specs.declared.fault.Refusal.TheVariants.{At}
 use Rattle.rc_keys.specs.Slices.{Stops, Refuses, Short}
 use Rattle.rc_wire.specs.Reading.{words_from, end_line}
+use Rattle.rc_wire.proofs.FormsRead.{forms_of}
 use Rattle.rc_wire.proofs.Outcomes.{comes_to}
 use Rattle.rc_wire.proofs.PathsRead.{paths_are_items}
 use Rattle.rc_wire.proofs.reader.read_paths.Goals as goal
@@ -25,3 +26,8 @@ pub returns-in-Before-clause-paths : goal.returns-in-Before-clause-paths
 returns-in-Before-clause-paths c =
     let o = returns-in-Before-clause-outcome c in
     (o.0, o.1, (paths_are_items c.args.is_wide c.args.line (end_line c.args.tokens.now) (words_from c.args.text.now c.args.tokens.now c.args.at) c.in_ok-finish-in-Before.field-0 o.0).0 o.2)
+
+pub returns-in-Before-clause-form : goal.returns-in-Before-clause-form
+returns-in-Before-clause-form c =
+    let o = returns-in-Before-clause-paths c in
+    forms_of c.args.is_wide c.args.line (words_from c.args.text.now c.args.tokens.now c.args.at) c.in_ok-finish-in-Before.field-0 o.0 o.2
