@@ -4,3 +4,8 @@ pub mod Prefixes
 pub mod Cutting
 pub mod Closing
 pub mod CutFiles
+pub mod Sized
+pub mod Fitting
+pub mod Holding
+pub mod Entries
+pub mod Designs

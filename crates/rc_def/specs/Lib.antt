@@ -7,4 +7,5 @@ pub mod File
 pub mod Reading
 pub mod Whole
 pub mod Sound
+pub mod Forms
 pub mod Cuts

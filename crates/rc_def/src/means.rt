@@ -4,14 +4,14 @@ ghost use Rattle.std.specs.Prelude.{◌≡◌, [], OnOk, IfOk};
 ghost use Rattle.rc_keys.specs.Course.{Turned};
 ghost use Rattle.rc_def.specs.Means as means;
 
-use crate::draft::{Draft, LayerWidth, NetDraft, PinDraft, ViaDraft, ViaLayers};
+use crate::draft::{Draft, LayerWidth, PinDraft, ViaDraft, ViaLayers};
 use crate::entry::{RawComp, RawRule};
 use crate::item::{DefItem, Section, Stage};
 use crate::list::{pairs, put_new, put_rect, rect_of};
 use crate::options::first_placement;
 use rc_fixed::{List, NoMemory, Text};
 use rc_keys::{Table, Turn};
-use rc_wire::{Operands, Wiring, one_of, point_of};
+use rc_wire::{Operands, one_of, point_of};
 use std::alloc::Global;
 use std::mem;
 
@@ -65,7 +65,7 @@ impl Draft {
                 self.goes(Stage::Options)
             }
             Section::Specials | Section::Nets => {
-                self.net = NetDraft::new(alloc);
+                self.net.clear(alloc);
                 self.goes(Stage::Connections)
             }
         }
@@ -124,8 +124,8 @@ impl Draft {
         ensures { OnOk result (self.new ≡ means.special_done self.old) }
     {
         let name = taken(alloc, &mut self.name);
-        let draft = mem::replace(&mut self.net, NetDraft::new(alloc));
-        put_new(&mut self.lists.specials, draft.finish(name, self.line))
+        let net = self.net.finish(alloc, name, self.line)?;
+        put_new(&mut self.lists.specials, net)
     }
 
     /// The net that is open joins the others.
@@ -133,8 +133,8 @@ impl Draft {
         ensures { OnOk result (self.new ≡ means.net_done self.old) }
     {
         let name = taken(alloc, &mut self.name);
-        let draft = mem::replace(&mut self.net, NetDraft::new(alloc));
-        put_new(&mut self.lists.nets, draft.finish(name, self.line))
+        let net = self.net.finish(alloc, name, self.line)?;
+        put_new(&mut self.lists.nets, net)
     }
 
     /// The entry that is open is complete.
@@ -173,7 +173,7 @@ impl Draft {
     fn open_paths(&mut self, alloc: Global, is_wide: bool, stage: Stage) -> Turn
         ensures { Turned result self.new (means.open_paths is_wide stage self.old) }
     {
-        self.wiring = Wiring::new(alloc, is_wide, self.line);
+        self.wiring.restart(alloc, is_wide, self.line);
         self.goes(stage)
     }
 
@@ -182,7 +182,7 @@ impl Draft {
         ensures { OnOk result (self.new ≡ means.with_paths self.old) }
     {
         let paths = self.wiring.finish(alloc)?;
-        self.wiring = Wiring::new(alloc, false, 0);
+        self.wiring.restart(alloc, false, 0);
         self.net.with_paths(paths)
     }
 

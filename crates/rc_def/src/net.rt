@@ -2,6 +2,7 @@
 
 ghost use Rattle.std.specs.Prelude.{◌≡◌, ◌++◌, ◌∷◌, [], OnOk, IfOk};
 ghost use Rattle.rc_wire.specs.Paths.{orient_of as orient_of_key};
+ghost use Rattle.rc_def.specs.Drafts.{no_net};
 ghost use Rattle.rc_def.specs.Means as means;
 ghost use Rattle.rc_def.specs.Parts.{first as first_of, with_rect};
 
@@ -10,7 +11,7 @@ use crate::list::put_rect;
 use crate::raw_net::RawNet;
 use rc_fixed::{List, NoMemory, Text};
 use rc_geom::{Orient, Pt, Rect};
-use rc_wire::{Key, RawPath, orient_of};
+use rc_wire::{Key, RawPath, fitted, orient_of};
 use std::alloc::Global;
 use std::mem;
 
@@ -84,24 +85,48 @@ impl NetDraft {
     pub fn with_paths(&mut self, paths: List<RawPath>) -> Result<(), NoMemory>
         ensures { OnOk result (self.new ≡ record self.old { paths = self.old.paths ++ paths }) }
     {
+        if self.paths.is_empty() {
+            self.paths = paths;
+            return Ok(());
+        }
         let mut paths = paths;
         self.paths.append(&mut paths)
     }
 
-    /// The net of these connections and options.
-    #[tactic(auto, unfolding(crate::specs::Means::net_of))]
-    pub fn finish(self, name: Text, line: u32) -> RawNet
-        ensures { result ≡ means.net_of name line self }
+    /// No connections and no options, as `new` makes it. The memory of lists stays.
+    pub fn clear(&mut self, alloc: Global)
+        ensures { self.new ≡ no_net }
     {
-        RawNet {
+        self.power = None;
+        self.rule = None;
+        self.conns.clear();
+        self.paths.clear();
+        self.rects.clear();
+        self.vias.clear();
+        self.via = Text::new(alloc);
+        self.orient = Orient::N;
+    }
+
+    /// The net of these connections and options, of which none are left.
+    #[tactic(auto, unfolding(crate::specs::Means::net_of))]
+    pub fn finish(&mut self, alloc: Global, name: Text, line: u32) -> Result<RawNet, NoMemory>
+        ensures net { IfOk result (λ net. net ≡ means.net_of name line self.old) }
+        ensures left { OnOk result (self.new ≡ no_net) }
+    {
+        let conns = fitted(alloc, &mut self.conns)?;
+        let rects = fitted(alloc, &mut self.rects)?;
+        let vias = fitted(alloc, &mut self.vias)?;
+        let net = RawNet {
             name,
             line,
             power: matches!(self.power, Some(true)),
-            rule: self.rule,
-            conns: self.conns,
-            paths: self.paths,
-            rects: self.rects,
-            vias: self.vias,
-        }
+            rule: mem::replace(&mut self.rule, None),
+            conns,
+            paths: mem::replace(&mut self.paths, List::new(alloc)),
+            rects,
+            vias,
+        };
+        self.clear(alloc);
+        Ok(net)
     }
 }

@@ -8,6 +8,7 @@ ghost use Rattle.rc_def.specs.Drafts.{design_of};
 ghost use Rattle.rc_keys.specs.declared.token.Mode.TheVariants as mode;
 ghost use Rattle.rc_keys.specs.Lexemes.{words_of};
 ghost use Rattle.rc_def.specs.declared.design.RawDesign.{RawDesign as Design};
+ghost use Rattle.rc_def.specs.Forms.{IsRawDesign};
 ghost use Rattle.rc_def.specs.Reading.{IsRead};
 ghost use Rattle.rc_def.specs.Sound.{IsSound};
 ghost use Rattle.rc_def.specs.Whole.{IsFile, ReadsAs};
@@ -158,6 +159,7 @@ pub fn read(alloc: Global, text: &[u8]) -> Result<RawDesign, Fault>
     ensures outcome { IsRead result (def_outcome text.now) }
     ensures file { IfOk result (λ design. IsFile (words_of mode.Lef text.now).words design) }
     ensures sound { IfOk result (λ design. IsSound design) }
+    ensures form { IfOk result (λ design. IsRawDesign design) }
     ensures every_file { (design : Design) → IsFile (words_of mode.Lef text.now).words design → ReadsAs result design }
 {
     let keys = Keys::new();

@@ -1,6 +1,7 @@
 //! The wiring of nets, as it is written: paths of points, vias and patches, in the units of the text.
 #![tactic(auto)]
 
+mod fit;
 mod item;
 mod key;
 mod laws;
@@ -10,6 +11,7 @@ mod path;
 mod reader;
 mod wiring;
 
+pub use fit::fitted;
 pub use item::{PathItem, PathStage};
 pub use key::{Key, Keys};
 pub use laws::paths_are_items;

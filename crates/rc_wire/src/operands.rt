@@ -1,6 +1,6 @@
 //! What the parts of an item say.
 
-ghost use Rattle.std.specs.Prelude.{◌≡◌, OnOk, IfOk};
+ghost use Rattle.std.specs.Prelude.{◌≡◌, [], OnOk, IfOk};
 ghost use Rattle.rc_wire.specs.Parts as parts;
 
 use crate::key::Key;
@@ -81,6 +81,15 @@ fn is_bus(text: &[u8]) -> bool
     matches!(text, b"[]" | b"{}" | b"<>" | b"()")
 }
 
+/// The text has no bytes from then on.
+fn empties(alloc: Global, text: &mut Text)
+    ensures { text.new ≡ [] }
+{
+    if !text.bytes().is_empty() {
+        *text = Text::new(alloc);
+    }
+}
+
 impl Operands {
     /// Nothing is said.
     pub fn new(alloc: Global) -> Operands
@@ -102,9 +111,9 @@ impl Operands {
     pub fn clear(&mut self, alloc: Global)
         ensures { self.new ≡ parts.nothing }
     {
-        self.name = Text::new(alloc);
-        self.second = Text::new(alloc);
-        self.third = Text::new(alloc);
+        empties(alloc, &mut self.name);
+        empties(alloc, &mut self.second);
+        empties(alloc, &mut self.third);
         self.numbers.clear();
         self.extension = None;
         self.chosen = Key::Other;

@@ -3,6 +3,7 @@
 ghost use Rattle.std.specs.Prelude.{◌≡◌, OnOk, IfOk};
 ghost use Rattle.rc_wire.specs.Paths as paths;
 
+use crate::fit::fitted;
 use crate::item::{PathItem, PathStage};
 use crate::key::Key;
 use crate::operands::Operands;
@@ -101,6 +102,21 @@ impl Wiring {
             steps: List::new(alloc),
             last: None,
         }
+    }
+
+    /// No path yet, as `new` makes it. The memory of paths and steps stays.
+    pub fn restart(&mut self, alloc: Global, is_wide: bool, line: u32)
+        ensures { self.new ≡ paths.no_paths is_wide line }
+    {
+        self.is_wide = is_wide;
+        self.line = line;
+        self.paths.clear();
+        self.stage = PathStage::Layer;
+        self.layer = Text::new(alloc);
+        self.width = None;
+        self.taper = Taper::Net;
+        self.steps.clear();
+        self.last = None;
     }
 
     /// Whether the open path has the width 0.
@@ -218,24 +234,25 @@ impl Wiring {
     fn with_path(&mut self, alloc: Global) -> Result<(), NoMemory>
         ensures { OnOk result (self.new ≡ paths.with_path self.old) }
     {
+        let steps = fitted(alloc, &mut self.steps)?;
         let path = RawPath {
             layer: mem::replace(&mut self.layer, Text::new(alloc)),
             width: self.width,
             taper: mem::replace(&mut self.taper, Taper::Net),
-            steps: mem::replace(&mut self.steps, List::new(alloc)),
+            steps,
             line: self.line,
         };
         self.paths.push(path)
     }
 
     /// A path begins on this layer.
-    fn on_layer(&mut self, alloc: Global, layer: Text, width: Option<i32>)
+    fn on_layer(&mut self, layer: Text, width: Option<i32>)
         ensures { self.new ≡ paths.on_layer layer width self.old }
     {
         self.layer = layer;
         self.width = width;
         self.taper = Taper::Net;
-        self.steps = List::new(alloc);
+        self.steps.clear();
         self.last = None;
         self.stage = PathStage::Head;
     }
@@ -306,12 +323,12 @@ impl Wiring {
         match item {
             PathItem::Layer | PathItem::WideLayer => {
                 let width = one_of(said.numbers.items());
-                self.on_layer(alloc, mem::replace(&mut said.name, Text::new(alloc)), width);
+                self.on_layer(mem::replace(&mut said.name, Text::new(alloc)), width);
             }
             PathItem::Next | PathItem::WideNext => {
                 self.with_path(alloc)?;
                 let width = one_of(said.numbers.items());
-                self.on_layer(alloc, mem::replace(&mut said.name, Text::new(alloc)), width);
+                self.on_layer(mem::replace(&mut said.name, Text::new(alloc)), width);
             }
             PathItem::Taper => {
                 self.taper = Taper::Layer;
@@ -340,6 +357,6 @@ impl Wiring {
         ensures { IfOk result (λ list. list ≡ paths.paths_of self.old) }
     {
         self.with_path(alloc)?;
-        Ok(mem::replace(&mut self.paths, List::new(alloc)))
+        fitted(alloc, &mut self.paths)
     }
 }

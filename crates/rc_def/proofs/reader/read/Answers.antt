@@ -3,6 +3,7 @@ use Rattle.std.specs.Prelude.{Ok}
 use Rattle.rc_keys.specs.Course.{Read, Refuses, Unfinished}
 use Rattle.rc_keys.specs.declared.code.Code.TheVariants.{E16}
 use Rattle.rc_keys.specs.declared.fault.Refusal.TheVariants.{At}
+use Rattle.rc_def.proofs.Designs.{form_of_design}
 use Rattle.rc_def.proofs.Outcomes.{comes_to}
 use Rattle.rc_def.proofs.FilesRead.{accepts_files, read_as, refused_is_none}
 use Rattle.rc_def.proofs.reader.read.Goals as goal
@@ -27,3 +28,6 @@ returns-in-Refuses-clause-every_file c design file = absurd (refused_is_none c.a
 
 pub returns-in-Unfinished-clause-every_file : goal.returns-in-Unfinished-clause-every_file
 returns-in-Unfinished-clause-every_file c design file = absurd (refused_is_none c.args.text.now design (At E16 c.in-Unfinished.last) (returns-in-Unfinished-clause-outcome c) file)
+
+pub returns-in-Read-clause-form : goal.returns-in-Read-clause-form
+returns-in-Read-clause-form c = form_of_design c.args.text.now c.finish.result c.requires (returns-in-Read-clause-file c) c.finish.ensures.sound
