@@ -13,7 +13,12 @@ pub struct Best {
 }
 
 /// Runs the layer so many times over the inputs, and at least once.
-pub fn fastest<R: Clock>(rt: &R, layer: Layer, turns: u32, inputs: &[Input]) -> io::Result<Best> {
+pub fn fastest<R: Clock + AllocGlobal>(
+    rt: &R,
+    layer: Layer,
+    turns: u32,
+    inputs: &[Input],
+) -> io::Result<Best> {
     let mut best = turn(rt, layer, inputs)?;
     for _turn in 1..turns {
         let next = turn(rt, layer, inputs)?;
@@ -25,9 +30,9 @@ pub fn fastest<R: Clock>(rt: &R, layer: Layer, turns: u32, inputs: &[Input]) -> 
 }
 
 /// One turn.
-fn turn<R: Clock>(rt: &R, layer: Layer, inputs: &[Input]) -> io::Result<Best> {
+fn turn<R: Clock + AllocGlobal>(rt: &R, layer: Layer, inputs: &[Input]) -> io::Result<Best> {
     let start = Instant::now(rt)?;
-    let count = layer.turn(inputs);
+    let count = layer.turn(rt.alloc(), inputs);
     let time = start.elapsed(rt)?;
     Ok(Best { count, time })
 }
