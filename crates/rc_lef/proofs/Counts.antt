@@ -13,7 +13,8 @@ use Rattle.rc_keys.specs.Tokens.{begin, next, after, closed_by, closed_from, clo
 use Rattle.rc_keys.specs.Phrases.{joined, Spells, Block}
 use Rattle.rc_lef.specs.declared.key.Key.TheVariants as keys
 use Rattle.rc_lef.specs.declared.cell.Macro.{Macro}
-use Rattle.rc_lef.specs.Technology.{Technology, HasAtMost}
+use Rattle.rc_lef.specs.Facts.{HasAtMost}
+use Rattle.rc_lef.specs.Technology.{Technology}
 use Rattle.rc_lef.specs.Phrases.{Part, Word, Name, Says}
 use Rattle.rc_lef.specs.declared.state.CellDraft.{CellDraft}
 use Rattle.rc_lef.specs.declared.state.ViaDraft.{ViaDraft}

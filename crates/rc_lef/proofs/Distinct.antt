@@ -1,15 +1,12 @@
--- Files keep names apart, and what the reader takes over is a technology.
-use Rattle.std.proofs.Common.{◌≡◌, ◌∙◌, ◌+◌, ◌≤◌, ◌^◌, ℕ, Bool, true, false, cond, List, [], ◌∷◌, ◌++◌, length, refl, ap, sym}
+-- Files keep names apart.
+use Rattle.std.proofs.Common.{◌≡◌, ◌∙◌, ℕ, Bool, true, false, cond, List, [], ◌∷◌, ◌++◌, refl, ap}
 use Rattle.std.specs.List.{FoldsTo}
-use Rattle.rc_keys.specs.declared.token.Mode.TheVariants as mode
-use Rattle.rc_keys.specs.Lexemes.{Lexeme, Remaining, words_of}
-use Rattle.rc_keys.specs.Course.{Read, reading}
+use Rattle.rc_keys.specs.Lexemes.{Lexeme, Remaining}
 use Rattle.rc_keys.specs.Tables.{has_name, are_new}
 use Rattle.rc_keys.proofs.Naming.{are_new-append}
-use Rattle.rc_lef.specs.declared.state.State.{State}
 use Rattle.rc_lef.specs.declared.state.ViaDraft.{ViaDraft}
-use Rattle.rc_lef.specs.Technology.{Technology, IsDistinct, HasAtMost, IsSound, name_of_layer, name_of_via, name_of_macro, name_of_rule}
-use Rattle.rc_lef.specs.Rows.{lef_turn, lef_may_end, lef_begin, tech_with}
+use Rattle.rc_lef.specs.Facts.{IsDistinct}
+use Rattle.rc_lef.specs.Technology.{Technology, name_of_layer, name_of_via, name_of_macro, name_of_rule}
 use Rattle.rc_lef.specs.Cells.{macro_of}
 use Rattle.rc_lef.specs.Vias.{via_of}
 use Rattle.rc_lef.specs.LayerBlock.{knows_layer, layer_of}
@@ -17,8 +14,6 @@ use Rattle.rc_lef.specs.ViaBlock.{knows_via, with_new_via}
 use Rattle.rc_lef.specs.RuleBlock.{RuleParts, RuleStatement, LayerHead, Width, LayerOther, LayerEnd, ViaHead, ViaPart as ViaInRule, ViaEnd, Skipped, Other, rule_begun, knows_rule}
 use Rattle.rc_lef.specs.MacroBlock.{knows_macro}
 use Rattle.rc_lef.specs.File.{Entry, UnitsPart, LayerPart, ViaPart, RulePart, MacroPart, SkippedPart, OtherPart, IsFile}
-use Rattle.rc_lef.proofs.Files.{read_is_file}
-use Rattle.rc_lef.proofs.Counts.{fewer, file_adds}
 use Rattle.rc_lef.proofs.ViaNames.{via_name}
 
 -- one more, unless its name is known
@@ -48,7 +43,7 @@ rule_keeps before after words (Skipped at is same) d = rw same d
 rule_keeps before after words (Other at is same) d = rw same d
 
 -- what each statement keeps, all of them keep
-all_keep : {A : Type 0} (Mean : A → List Lexeme → A → Type 0) (P : A → Type 0) → ((x y : A) (words : List Lexeme) → Mean x words y → P x → P y) → (parts : List (List Lexeme)) (x y : A) → FoldsTo Mean x parts y → P x → P y
+pub all_keep : {A : Type 0} (Mean : A → List Lexeme → A → Type 0) (P : A → Type 0) → ((x y : A) (words : List Lexeme) → Mean x words y → P x → P y) → (parts : List (List Lexeme)) (x y : A) → FoldsTo Mean x parts y → P x → P y
 all_keep Mean P law [] x y same p = rw (← same) p
 all_keep Mean P law (part ∷ parts) x y all p = all_keep Mean P law parts all.0 y all.2 (law x all.0 part all.1 p)
 
@@ -69,19 +64,3 @@ entry_keeps before after words (OtherPart is same) d = rw same d
 
 pub file_keeps : (before after : Technology) (text : Remaining) → IsFile before text after → IsDistinct before → IsDistinct after
 file_keeps before after text file d = all_keep Entry IsDistinct entry_keeps file.entries.parts before after file.entries.each d
-
--- ---- what the reader takes over
-
--- what was read is a file
-pub read_file : (tech : Technology) (text : List ℕ) (start s : State) → start ≡ lef_begin tech → reading (lef_turn tech) lef_may_end start (words_of mode.Lef text) ≡ Read s → IsFile tech (words_of mode.Lef text) (tech_with tech s)
-read_file tech text start s at is = read_is_file tech (words_of mode.Lef text) s (ap (λ b. reading (lef_turn tech) lef_may_end b (words_of mode.Lef text)) (sym at) ∙ is)
-
--- and that is a technology
-pub stays_sound : (n : ℕ) (tech after : Technology) (text : List ℕ) → n + length text ≤ 2 ^ 30 → IsSound tech → HasAtMost n tech → IsFile tech (words_of mode.Lef text) after → IsSound after
-stays_sound n tech after text le sound few file = record {
-  distinct = file_keeps tech after (words_of mode.Lef text) file sound.distinct;
-  few = fewer (n + length text) (2 ^ 30) after le (file_adds mode.Lef n tech after text file few);
-}
-
-pub stays_few : (n now : ℕ) (tech after last : Technology) (text : List ℕ) → HasAtMost n tech → IsFile tech (words_of mode.Lef text) after → last ≡ after → now ≡ n + length text → n + length text ≤ 2 ^ 30 → HasAtMost now last × (now ≤ 2 ^ 30)
-stays_few n now tech after last text few file same is le = rw (same, is) (file_adds mode.Lef n tech after text file few, le)

@@ -20,3 +20,8 @@ pub mod Known
 pub mod NewNames
 pub mod Counts
 pub mod Picked
+pub mod Shapes
+pub mod UsableVias
+pub mod ViaRanges
+pub mod Ranges
+pub mod Sound

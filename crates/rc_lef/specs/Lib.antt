@@ -1,5 +1,6 @@
 pub mod Keys
 pub mod Technology
+pub mod Facts
 pub mod Lengths
 pub mod Operands
 pub mod Moves

@@ -1,6 +1,5 @@
 -- A technology.
-use Rattle.std.specs.Prelude.{◌≡◌, ◌≤◌, ◌^◌, ◌++◌, ℕ, Bool, true, false, List, [], Option, None, All, length}
-use Rattle.rc_keys.specs.Tables.{are_new}
+use Rattle.std.specs.Prelude.{◌++◌, ℕ, Bool, true, false, List, [], Option, None}
 use Rattle.rc_lef.specs.declared.units.Units.{Units}
 use Rattle.rc_lef.specs.declared.tech.Layer.{Layer}
 use Rattle.rc_lef.specs.declared.via.Via.{Via}
@@ -58,27 +57,6 @@ with_more tech units layers vias macros rules = record {
   macros = tech.macros ++ macros;
   rules = tech.rules ++ rules;
 }
-
--- ---- what holds of every technology that files define
-
--- the things of each list have different names
-pub record IsDistinct (tech : Technology) : Type 0 where
-  pub layers : are_new name_of_layer [] tech.layers ≡ true
-  pub vias : are_new name_of_via [] tech.vias ≡ true
-  pub macros : are_new name_of_macro [] tech.macros ≡ true
-  pub rules : are_new name_of_rule [] tech.rules ≡ true
-
--- each list has at most so many things, and so has the list of pins of each macro
-pub record HasAtMost (count : ℕ) (tech : Technology) : Type 0 where
-  pub layers : length tech.layers ≤ count
-  pub vias : length tech.vias ≤ count
-  pub macros : length tech.macros ≤ count
-  pub rules : length tech.rules ≤ count
-  pub pins : All (λ (cell : Macro). length cell.pins ≤ count) tech.macros
-
-pub record IsSound (tech : Technology) : Type 0 where
-  pub distinct : IsDistinct tech
-  pub few : HasAtMost (2 ^ 30) tech
 
 -- ---- the reader of files, one after the other: what they define, and how many bytes they had
 pub record Files : Type 0 where

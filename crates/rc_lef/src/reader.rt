@@ -4,7 +4,8 @@ ghost use Rattle.std.specs.Prelude.{◌≡◌, ◌≤◌, ◌+◌, ◌^◌, [], 
 ghost use Rattle.rc_lef.specs.Rows.{lef_outcome, tech_with};
 ghost use Rattle.rc_keys.specs.declared.token.Mode.TheVariants as mode;
 ghost use Rattle.rc_keys.specs.Lexemes.{words_of};
-ghost use Rattle.rc_lef.specs.Technology.{Technology, IsSound, no_technology};
+ghost use Rattle.rc_lef.specs.Facts.{IsSound};
+ghost use Rattle.rc_lef.specs.Technology.{Technology, no_technology};
 ghost use Rattle.rc_lef.specs.File.{IsFile};
 ghost use Rattle.rc_lef.specs.Reading.{IsRefused, ReadsAs};
 
@@ -28,7 +29,8 @@ pub struct TechReader {
 
 impl Model for TechReader {
     ghost use Rattle.std.specs.Prelude.{◌≤◌, ◌^◌};
-    ghost use Rattle.rc_lef.specs.Technology.{Files, HasAtMost};
+    ghost use Rattle.rc_lef.specs.Facts.{HasAtMost};
+    ghost use Rattle.rc_lef.specs.Technology.{Files};
 
     ghost Value = { Files };
 

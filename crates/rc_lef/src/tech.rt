@@ -3,7 +3,8 @@
 ghost use Rattle.std.specs.Prelude.{◌≡◌, ◌<◌, ◌≤◌, ◌^◌, ◌++◌, [], None, true, length, position, option_map, IfSome, OnOk, OnErr};
 ghost use Rattle.std.specs.List.{list_any};
 ghost use Rattle.std.specs.Str.{bytes_eq};
-ghost use Rattle.rc_lef.specs.Technology.{IsSound, with_more};
+ghost use Rattle.rc_lef.specs.Facts.{IsSound};
+ghost use Rattle.rc_lef.specs.Technology.{with_more};
 ghost use Rattle.rc_lef.specs.Operands.{is_named, kind_named};
 ghost use Rattle.rc_fixed.specs.Units.{IsUnits};
 ghost use Rattle.rc_lef.specs.Lengths.{in_a_micron};
@@ -59,7 +60,8 @@ pub struct Tech {
 }
 
 impl Model for Tech {
-    ghost use Rattle.rc_lef.specs.Technology.{Technology, IsSound};
+    ghost use Rattle.rc_lef.specs.Facts.{IsSound};
+    ghost use Rattle.rc_lef.specs.Technology.{Technology};
 
     ghost Value = { Technology };
 

@@ -3,7 +3,7 @@ use Rattle.rc_keys.specs.declared.code.Code.TheVariants.{E16}
 use Rattle.rc_keys.specs.declared.fault.Refusal.TheVariants.{At}
 use Rattle.rc_keys.specs.Course.{Refuses, Unfinished}
 use Rattle.rc_lef.specs.Technology.{Files}
-use Rattle.rc_lef.proofs.Distinct.{read_file, stays_sound, stays_few}
+use Rattle.rc_lef.proofs.Sound.{read_file, stays_sound, stays_few}
 use Rattle.rc_lef.proofs.Outcomes.{comes_to, accepts_files, read_as, refused_is_none}
 use Rattle.rc_lef.proofs.reader.TechReader.file.Goals as goal
 
