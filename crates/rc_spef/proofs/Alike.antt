@@ -63,7 +63,7 @@ and_decides false b first second = (λ is. absurd cc, λ both. absurd (let no : 
 told : {P Q : Type 0} (b : Bool) → Decides b P → (P → Q) → (Q → P) → Decides b Q
 told b decides to from = (λ is. to (decides.0 is), λ q. decides.1 (from q))
 
-sub_decides : (a b : Sub) → Decides (same_sub a b) (a ≡ b)
+pub sub_decides : (a b : Sub) → Decides (same_sub a b) (a ≡ b)
 sub_decides sub.Bare sub.Bare = (λ _. refl, λ _. refl)
 sub_decides sub.Bare (sub.Num n) = (λ is. absurd cc, λ is. absurd cc)
 sub_decides sub.Bare (sub.Word w) = (λ is. absurd cc, λ is. absurd cc)

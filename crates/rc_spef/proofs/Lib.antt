@@ -19,3 +19,6 @@ pub mod Fair
 pub mod Spoken
 pub mod Written
 pub mod RoundTrip
+pub mod Members
+pub mod Balancing
+pub mod Joining

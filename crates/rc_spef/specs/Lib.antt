@@ -18,3 +18,6 @@ pub mod Sameness
 pub mod SameTests
 pub mod Laws
 pub mod Buffering
+pub mod Balance
+pub mod BalanceTests
+pub mod Joints

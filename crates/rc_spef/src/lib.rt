@@ -1,10 +1,12 @@
 //! The value of a SPEF file, its exact text, and the reader.
 #![tactic(auto)]
 
+mod balance;
 mod buffered;
 mod escaping;
 mod grammar;
 mod header_rows;
+mod joint;
 mod key;
 mod laws;
 mod moves;
@@ -18,6 +20,7 @@ mod state;
 mod value;
 mod writer;
 
+pub use balance::is_balanced;
 pub use escaping::escape;
 pub use laws::{grammar_is_read, head_and_blocks, spef_reads_back};
 pub use reader::read;

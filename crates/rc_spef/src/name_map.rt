@@ -14,7 +14,7 @@ use std::alloc::Global;
 use std::marker::Model;
 
 /// What stands behind the number of a name, as it lies in a text.
-#[derive(Clone, Copy, Debug)]
+#[derive(Clone, Copy, Debug, PartialEq, Eq, Hash)]
 pub enum Behind<'a> {
     /// Nothing.
     Bare,
@@ -25,7 +25,7 @@ pub enum Behind<'a> {
 }
 
 /// A reference to a name, as it lies in a text.
-#[derive(Clone, Copy, Debug)]
+#[derive(Clone, Copy, Debug, PartialEq, Eq, Hash)]
 pub struct Reference<'a> {
     /// The name's place, from 1.
     pub name: u32,
