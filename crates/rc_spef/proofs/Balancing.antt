@@ -1,13 +1,13 @@
 -- The tests tell that a value is balanced.
-use Rattle.std.proofs.Common.{◌≡◌, ◌≢◌, ◌∙◌, ℕ, suc, ◌+◌, ◌<◌, ◌≤◌, Bool, true, false, cond, List, [], ◌∷◌, length, refl, ap, sym, inl, inr, arith}
-use Rattle.std.specs.Prelude.{◌⊎◌, ◌==◌, ◌&&◌, ◌||◌, not, ◌↔◌, Result, Ok, Err, IfOk, IsTrue, sum_by, count_by, flat_map}
-use Rattle.std.specs.List.{list_all, list_any, AllByRecursion}
+use Rattle.std.proofs.Common.{◌≡◌, ◌≢◌, ◌∙◌, ℕ, suc, ◌≤◌, Bool, true, false, cond, List, [], ◌∷◌, length, refl, ap, sym, inl, arith}
+use Rattle.std.specs.Prelude.{◌==◌, ◌&&◌, ◌||◌, not, ◌↔◌, Result, Ok, Err, IfOk, IsTrue, sum_by, count_by}
+use Rattle.std.specs.List.{list_all, AllByRecursion}
 use Rattle.std.proofs.lemmas.Bool.{ne_eqb, eq-eqb, eqb-true}
 use Rattle.rc_spef.specs.declared.value.DNet.{DNet}
 use Rattle.rc_spef.specs.declared.value.End.{End}
 use Rattle.rc_spef.specs.declared.value.Spef.{Spef}
 use Rattle.rc_spef.specs.Balance.{Coupling, couplings, is_end, leads, is_turned, is_partner, has_name, total_of, IsPaired, IsBalancedNet, IsBalanced}
-use Rattle.rc_spef.specs.BalanceTests.{has_total, leads_out, all_lead_out, is_single, is_once, has_partner, all_couplings, pair_up, are_balanced}
+use Rattle.rc_spef.specs.BalanceTests.{has_total, leads_out, all_lead_out, is_single, is_once, has_partner, all_couplings, are_balanced}
 use Rattle.rc_spef.specs.SameTests.{same_sub}
 use Rattle.rc_spef.proofs.Alike.{sub_decides}
 use Rattle.rc_spef.proofs.Members.{In, each, of_each, passes, all_pass, some_passes, any_passes, some_counted, part, counted, none_counted, fewer, sum_flat, only_one, in_flat, from_flat}

@@ -1,24 +1,21 @@
 -- The rows take ports and connections with their attributes, and the header.
-use Rattle.std.proofs.Common.{◌≡◌, ◌∙◌, ℕ, Bool, true, false, List, [], ◌∷◌, ◌++◌, refl, ap, sym, subst, inl, inr, Option, Some, None}
+use Rattle.std.proofs.Common.{◌≡◌, ◌∙◌, ℕ, List, [], ◌∷◌, ◌++◌, refl, ap, sym, subst, Option, Some, None}
 use Rattle.rc_keys.specs.Lexemes.{Lexeme}
-use Rattle.rc_keys.specs.Phrases.{InTurn}
 use Rattle.rc_spef.specs.declared.value.SpefPort.{SpefPort}
 use Rattle.rc_spef.specs.declared.value.SpefConn.{SpefConn}
-use Rattle.rc_spef.specs.declared.value.End.{End}
-use Rattle.rc_spef.specs.declared.value.Dir3.{Dir3}
 use Rattle.rc_spef.specs.declared.state.ConnKind.TheVariants as conn_kinds
 use Rattle.rc_spef.specs.declared.state.Row.{Row}
 use Rattle.rc_spef.specs.declared.state.Row.TheVariants as rows
 use Rattle.rc_spef.specs.declared.key.Key.TheVariants as keys
 use Rattle.rc_spef.specs.NameRows.{first_cell, with_cell}
 use Rattle.rc_spef.specs.Parts.{Word, AnyWord, Name, Reference, EndOf, Direction, Are}
-use Rattle.rc_spef.specs.NetLines.{Attribute, WithAttributes, PortLine, ConnLine, conn_word as word_of_conn, first_of}
+use Rattle.rc_spef.specs.NetLines.{Attribute, PortLine, ConnLine, conn_word as word_of_conn, first_of}
 use Rattle.rc_spef.specs.NetLines.Attribute.{At, Loaded, Driven}
 use Rattle.rc_spef.specs.NetLines.ConnLine.{Connects, Passes}
 use Rattle.rc_spef.proofs.Tails.{cell_of_last}
-use Rattle.rc_spef.proofs.Walks.{Known, Left, at, Walks, Leads, Is, ConnRow, PortRow, then}
-use Rattle.rc_spef.proofs.Walks.ConnRow.{first_conn, behind_conn, behind_node}
-use Rattle.rc_spef.proofs.Walks.PortRow.{first_port, behind_port}
+use Rattle.rc_spef.proofs.Walks.{Known, Left, at, Walks, Is, ConnRow, PortRow, then}
+use Rattle.rc_spef.proofs.Walks.ConnRow.{behind_conn, behind_node}
+use Rattle.rc_spef.proofs.Walks.PortRow.{behind_port}
 use Rattle.rc_spef.proofs.NetTokens.{with_conns, kind_of, conn_word, node_word, conn_end, node_end, conn_direction}
 use Rattle.rc_spef.proofs.HeadTokens.{port_name, port_direction}
 use Rattle.rc_spef.proofs.TailTokens.{TailRow, back_to, coordinates_word, load_word, driven_word, first_coordinate, second_coordinate, load_value, conn_cell, node_cell, port_cell}

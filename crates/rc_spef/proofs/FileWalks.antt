@@ -1,17 +1,11 @@
 -- The rows take the header, the map of names, and nets.
-use Rattle.std.proofs.Common.{◌≡◌, ◌∙◌, ℕ, Bool, true, false, List, [], ◌∷◌, ◌++◌, refl, ap, sym, subst, inl, inr, Option, Some, None}
-use Rattle.std.specs.Prelude.{◌⊎◌}
+use Rattle.std.proofs.Common.{◌≡◌, ℕ, true, false, List, [], ◌∷◌, ◌++◌, refl, inl, inr, Some}
 use Rattle.std.specs.List.{list_any, AllByRecursion}
 use Rattle.std.specs.Str.{bytes_eq}
-use Rattle.rc_keys.specs.declared.token.Kind.TheVariants as kinds
 use Rattle.rc_keys.specs.Lexemes.{Lexeme}
-use Rattle.rc_keys.specs.Phrases.{InTurn}
 use Rattle.rc_keys.specs.Statements.{IsStatement}
 use Rattle.rc_keys.proofs.Phrasing.{Step}
-use Rattle.rc_spef.specs.declared.value.SpefConn.{SpefConn}
-use Rattle.rc_spef.specs.declared.value.SpefRes.{SpefRes}
 use Rattle.rc_spef.specs.declared.value.DNet.{DNet}
-use Rattle.rc_spef.specs.declared.value.Cap.{Cap}
 use Rattle.rc_spef.specs.declared.state.Header.{Header}
 use Rattle.rc_spef.specs.declared.state.Scale.{Scale}
 use Rattle.rc_spef.specs.declared.state.State.{State}
@@ -26,7 +20,7 @@ use Rattle.rc_spef.specs.Rows.{spef_turn}
 use Rattle.rc_spef.specs.Parts.{Says, Word, AnyWord, Quoted, AnyQuoted, Byte, TwoBytes, One, Value, Entry, Name, Reference, Are}
 use Rattle.rc_spef.specs.HeaderLines.{HeaderSays, HeaderLine, is_remark, is_other_unit, cap_word, res_word}
 use Rattle.rc_spef.specs.HeaderLines.HeaderSays.{Design, Remark, Flow, Divider, Delimiter, BusJoined, BusApart, OtherUnit, CapUnit, ResUnit}
-use Rattle.rc_spef.specs.NetLines.{Names, NameLine, ConnLine, CapLine, ResLine, NetBlock, NetLine, Section, Confidence}
+use Rattle.rc_spef.specs.NetLines.{Names, NameLine, ConnLine, CapLine, ResLine, NetBlock, NetLine, Confidence}
 use Rattle.rc_spef.proofs.Starts.{keyword_word}
 use Rattle.rc_spef.proofs.Walks.{Known, Left, at, Walks, Leads, Is, HeaderRow, BeforeNet, BeforeConns, ConnRow, BeforeCaps, BeforeResistors, BeforeEnd, nothing, one, then}
 use Rattle.rc_spef.proofs.Walks.HeaderRow.{at_header, at_flows}
@@ -40,7 +34,7 @@ use Rattle.rc_spef.proofs.NetTokens.{with_conns, with_caps, with_resistors, conn
 use Rattle.rc_spef.proofs.TailTokens.{confidence_value}
 use Rattle.rc_spef.proofs.HeadTokens.{HeaderKey, with_header, noted, value_row, header_begins, design_word, remark_word, flow_first, flow_more, divider_word, delimiter_word, bus_joined, bus_left, bus_right, other_number, cap_unit_number, res_unit_number, other_unit, cap_unit, res_unit, name_entry, name_word, net_keyword}
 use Rattle.rc_spef.proofs.HeadTokens.HeaderKey.{design, date, vendor, program, version, flow, divider, delimiter, bus, time, induct, farad, ohm}
-use Rattle.rc_spef.proofs.LineWalks.{Each, taken, one_part, two_parts, three_parts, turns_walk, section_walk, caps_each, resistors_each, scaled_cap, scaled_res}
+use Rattle.rc_spef.proofs.LineWalks.{Each, taken, one_part, two_parts, three_parts, section_walk, caps_each, resistors_each, scaled_cap, scaled_res}
 use Rattle.rc_spef.proofs.ConnWalks.{conn_each}
 
 -- ---- the header

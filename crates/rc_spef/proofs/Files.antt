@@ -1,14 +1,11 @@
 -- A text that says a value is read as that value.
-use Rattle.std.proofs.Common.{◌≡◌, ◌∙◌, ℕ, Bool, true, false, List, [], ◌∷◌, ◌++◌, refl, ap, sym, subst, inl, inr, Option, Some, None, Ok, Err, append-nil}
-use Rattle.std.specs.Prelude.{◌&&◌}
-use Rattle.std.specs.List.{FoldsTo}
+use Rattle.std.proofs.Common.{◌≡◌, ◌∙◌, ℕ, true, List, [], ◌∷◌, ◌++◌, refl, ap, sym, inl, Some, None, Ok, Err, append-nil}
 use Rattle.rc_keys.specs.declared.fault.Refusal.{Refusal}
 use Rattle.rc_keys.specs.declared.token.Mode.TheVariants as mode
 use Rattle.rc_keys.specs.Lexemes.{Lexeme, Remaining, words_of}
 use Rattle.rc_keys.specs.Course.{Read, reading}
-use Rattle.rc_keys.specs.Statements.{IsRead}
 use Rattle.rc_keys.specs.Phrases.{joined}
-use Rattle.rc_keys.proofs.Phrasing.{Step, reads_join}
+use Rattle.rc_keys.proofs.Phrasing.{reads_join}
 use Rattle.rc_keys.proofs.Readings.{accepts_statements}
 use Rattle.rc_spef.specs.declared.value.Spef.{Spef}
 use Rattle.rc_spef.specs.declared.state.Header.{Header}
@@ -23,7 +20,7 @@ use Rattle.rc_spef.specs.HeaderRows.{is_complete}
 use Rattle.rc_spef.specs.Rows.{spef_turn, spef_may_end, spef_outcome, outcome_of}
 use Rattle.rc_spef.specs.Parts.{Word, AnyQuoted, Are}
 use Rattle.rc_spef.specs.HeaderLines.{HeaderLine}
-use Rattle.rc_spef.specs.NetLines.{Names, no_names, NameLine, PortLine, NetLine}
+use Rattle.rc_spef.specs.NetLines.{no_names, NameLine, PortLine, NetLine}
 use Rattle.rc_spef.specs.Grammar.{IsSpef}
 use Rattle.rc_spef.proofs.Starts.{keyword_word}
 use Rattle.rc_spef.proofs.Walks.{Known, Left, at, Walks, Is, HeaderRow, BeforePorts, PortRow, BeforeNet, then}

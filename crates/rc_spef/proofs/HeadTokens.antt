@@ -1,10 +1,8 @@
 -- What the rows of the header, of the map of names and of the ports do with a token that says what is due.
-use Rattle.std.proofs.Common.{◌≡◌, ◌∙◌, ℕ, Bool, true, false, cond, drop, List, [], ◌∷◌, ◌++◌, length, refl, ap, sym, Option, Some, None, Ok, Err}
-use Rattle.std.specs.Prelude.{◌==◌, ◌&&◌, ◌||◌, not, slice_index}
+use Rattle.std.proofs.Common.{◌≡◌, ◌∙◌, ℕ, true, false, List, [], ◌∷◌, ◌++◌, length, refl, sym, Some}
+use Rattle.std.specs.Prelude.{◌==◌, slice_index}
 use Rattle.std.specs.List.{list_any}
 use Rattle.std.specs.Str.{bytes_eq}
-use Rattle.std.specs.Str.Parse.{digits_value}
-use Rattle.rc_fixed.specs.declared.decimal.Fixed.{Fixed}
 use Rattle.rc_keys.specs.declared.token.Kind.TheVariants as kinds
 use Rattle.rc_keys.specs.Lexemes.{Lexeme}
 use Rattle.rc_keys.specs.Course.{More, Done}
@@ -18,7 +16,7 @@ use Rattle.rc_spef.specs.declared.state.Row.TheVariants as rows
 use Rattle.rc_spef.specs.declared.key.Key.{Key}
 use Rattle.rc_spef.specs.declared.key.Key.TheVariants as keys
 use Rattle.rc_spef.specs.Keys.{key_of, is_quoted}
-use Rattle.rc_spef.specs.References.{is_in_map, begins_star}
+use Rattle.rc_spef.specs.References.{is_in_map}
 use Rattle.rc_spef.specs.Moves.{value_read, name_read}
 use Rattle.rc_spef.specs.HeaderRows.{begin_row, version_row, header_row, header_word, header_ends, behind_header, behind_names, nets_row, design_row, quoted_row, flow_row, flows_row, divider_row, delimiter_row, bus_left_row, bus_right_row, number_row, other_unit_row, cap_unit_row, res_unit_row, is_complete}
 use Rattle.rc_spef.specs.NameRows.{names_row, entry_row, name_row, ports_row, port_direction_row, port_tail_row}

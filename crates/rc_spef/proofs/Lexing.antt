@@ -1,7 +1,7 @@
 -- The tokens of a text of lines.
-use Rattle.std.proofs.Common.{◌≡◌, ◌≢◌, ◌∙◌, ℕ, ◌<◌, ◌≤◌, Bool, true, false, List, [], ◌∷◌, ◌++◌, length, refl, ap, sym, subst, arith, append-nil, append_assoc, Option, Some, None}
+use Rattle.std.proofs.Common.{◌≡◌, ◌≢◌, ◌∙◌, ℕ, true, false, List, [], ◌∷◌, ◌++◌, length, refl, ap, sym, append-nil, None}
 use Rattle.std.specs.Prelude.{◌==◌, ◌&&◌, not}
-use Rattle.std.specs.List.{list_all, All, AllByRecursion, flat_map}
+use Rattle.std.specs.List.{list_all, AllByRecursion, flat_map}
 use Rattle.std.proofs.lemmas.Bool.{eqb-false}
 use Rattle.std.proofs.lemmas.List.Sums.{AllPass-from_list_all}
 use Rattle.std.proofs.lemmas.List.Concat.{flat_map-append}
@@ -10,7 +10,7 @@ use Rattle.rc_keys.specs.declared.token.Mode.TheVariants as mode
 use Rattle.rc_keys.specs.Lexemes.{Lexeme, Remaining, words_of}
 use Rattle.rc_keys.specs.Pieces.{Piece, Blank, bytes_of, text_of, IsPiece, ArePieces, is_graphic, is_blank, IsQuotable, BeginsPlain, AreGraphic, line_behind}
 use Rattle.rc_keys.specs.Pieces as pieces
-use Rattle.rc_keys.specs.TokenLaws.{lexeme_of, lexemes_in, AreWords}
+use Rattle.rc_keys.specs.TokenLaws.{lexeme_of, lexemes_in}
 use Rattle.rc_keys.specs.Phrases.{joined}
 use Rattle.rc_keys.proofs.TokenLaws.{words_are_pieces}
 use Rattle.rc_keys.proofs.Blocks.{joined-append}

@@ -22,3 +22,10 @@ pub mod RoundTrip
 pub mod Members
 pub mod Balancing
 pub mod Joining
+pub mod Turned
+pub mod Backward
+pub mod Parsed
+pub mod Stepping
+pub mod NetSteps
+pub mod NeverClosing
+pub mod Accepted

@@ -1,26 +1,16 @@
 -- The rows take each statement of a text, and statements in turn.
-use Rattle.std.proofs.Common.{◌≡◌, ◌∙◌, ℕ, Bool, true, false, List, [], ◌∷◌, ◌++◌, refl, ap, sym, subst, inl, inr, Option, Some, None}
-use Rattle.std.specs.Prelude.{◌⊎◌, ◌&&◌, is_some}
-use Rattle.std.specs.List.{FoldsTo, AllByRecursion}
-use Rattle.std.specs.Str.{bytes_eq}
-use Rattle.rc_fixed.specs.declared.decimal.Fixed.{Fixed}
-use Rattle.rc_keys.specs.declared.token.Kind.TheVariants as kinds
+use Rattle.std.proofs.Common.{◌≡◌, ℕ, List, [], ◌∷◌, ◌++◌, refl, ap, sym, subst, inl, inr, Some, None}
+use Rattle.std.specs.List.{FoldsTo}
 use Rattle.rc_keys.specs.Lexemes.{Lexeme}
 use Rattle.rc_keys.specs.Phrases.{InTurn, joined}
 use Rattle.rc_keys.proofs.Phrasing.{Step}
-use Rattle.rc_spef.specs.declared.value.SpefPort.{SpefPort}
-use Rattle.rc_spef.specs.declared.value.SpefConn.{SpefConn}
 use Rattle.rc_spef.specs.declared.value.SpefRes.{SpefRes}
-use Rattle.rc_spef.specs.declared.value.DNet.{DNet}
 use Rattle.rc_spef.specs.declared.value.Cap.{Cap}
-use Rattle.rc_spef.specs.declared.value.End.{End}
-use Rattle.rc_spef.specs.declared.value.Dir3.{Dir3}
 use Rattle.rc_spef.specs.declared.state.Scale.{Scale}
 use Rattle.rc_spef.specs.declared.state.State.{State}
 use Rattle.rc_spef.specs.declared.state.Row.{Row}
 use Rattle.rc_spef.specs.declared.state.Row.TheVariants as rows
 use Rattle.rc_spef.specs.declared.key.Key.{Key}
-use Rattle.rc_spef.specs.declared.key.Key.TheVariants as keys
 use Rattle.rc_spef.specs.Keys.{key_of}
 use Rattle.rc_spef.specs.Rows.{spef_turn}
 use Rattle.rc_spef.specs.Parts.{Part, Says, Plain, Value, EndOf, Are}

@@ -1,6 +1,6 @@
 -- What each row does with a token that says what is due.
-use Rattle.std.proofs.Common.{◌≡◌, ◌∙◌, ℕ, suc, Bool, true, false, cond, take, drop, List, [], ◌∷◌, ◌++◌, length, refl, ap, sym, arith, Option, Some, None, Ok, Err}
-use Rattle.std.specs.Prelude.{◌==◌, ◌&&◌, ◌||◌, not}
+use Rattle.std.proofs.Common.{◌≡◌, ◌∙◌, ℕ, suc, Bool, true, false, cond, take, drop, List, [], ◌∷◌, ◌++◌, refl, ap, sym, arith, Some, None, Ok, Err}
+use Rattle.std.specs.Prelude.{◌==◌}
 use Rattle.std.specs.List.{list_all, before_first, position_or_len}
 use Rattle.std.proofs.lemmas.Bool.{eqb-true}
 use Rattle.rc_fixed.specs.declared.decimal.Fixed.{Fixed}
@@ -8,7 +8,6 @@ use Rattle.rc_fixed.specs.Numeral.{fixed_of, scaled_value, is_digit, is_e, whole
 use Rattle.rc_fixed.specs.Decimal.{is_point}
 use Rattle.rc_fixed.specs.declared.fault.NumFault.TheVariants.{Form}
 use Rattle.rc_keys.specs.declared.code.Code.TheVariants.{E04}
-use Rattle.rc_keys.specs.declared.token.Kind.TheVariants as kinds
 use Rattle.rc_keys.specs.Lexemes.{Lexeme}
 use Rattle.rc_keys.specs.Course.{More, Done}
 use Rattle.rc_keys.specs.Statements.{at_line}
@@ -22,11 +21,10 @@ use Rattle.rc_spef.specs.declared.state.ConnKind.TheVariants as conn_kinds
 use Rattle.rc_spef.specs.declared.state.Scale.{Scale}
 use Rattle.rc_spef.specs.declared.state.Row.{Row}
 use Rattle.rc_spef.specs.declared.state.Row.TheVariants as rows
-use Rattle.rc_spef.specs.declared.key.Key.{Key}
 use Rattle.rc_spef.specs.declared.key.Key.TheVariants as keys
 use Rattle.rc_spef.specs.Keys.{key_of}
 use Rattle.rc_spef.specs.References.{begins_star, end_of, reference}
-use Rattle.rc_spef.specs.Moves.{end_read, name_read, value_read, shift_of, no_end, no_net}
+use Rattle.rc_spef.specs.Moves.{end_read, name_read, value_read, shift_of, no_net}
 use Rattle.rc_spef.specs.NetRows.{net_name_row, net_total_row, behind_resistors, behind_caps, behind_conns, sections_row, net_tail_row, conns_row, conn_end_row, conn_direction_row, conn_tail_row, caps_row, cap_first_row, cap_second_row, cap_value_row, resistors_row, res_first_row, res_second_row, res_value_row}
 use Rattle.rc_spef.specs.Rows.{spef_turn}
 use Rattle.rc_spef.specs.NetLines.{conn_word as word_of_conn}

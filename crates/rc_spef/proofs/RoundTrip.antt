@@ -1,12 +1,12 @@
 -- The text of a value that can be written says that value.
-use Rattle.std.proofs.Common.{◌≡◌, ◌∙◌, ℕ, suc, ◌+◌, ◌^◌, ◌<◌, ◌≤◌, Bool, true, false, List, [], ◌∷◌, ◌++◌, length, refl, ap, sym, subst, arith, append-nil, append_assoc, inl, inr, Option, Some, None, Ok, map}
-use Rattle.std.specs.Prelude.{◌⊎◌, ◌&&◌, ◌==◌, not, codes, is_some, position}
+use Rattle.std.proofs.Common.{◌≡◌, ◌∙◌, ℕ, ◌+◌, ◌^◌, ◌<◌, ◌≤◌, true, false, List, [], ◌∷◌, ◌++◌, length, refl, ap, sym, subst, arith, append-nil, append_assoc, inl, inr, Some, None, map}
+use Rattle.std.specs.Prelude.{◌==◌, codes, is_some}
 use Rattle.std.specs.List.{AllByRecursion, flat_map, enumerate_from, list_any}
 use Rattle.std.specs.Str.{bytes_eq}
 use Rattle.std.proofs.lemmas.List.{map-id}
 use Rattle.rc_keys.specs.declared.token.Kind.TheVariants as kinds
 use Rattle.rc_keys.specs.declared.token.Mode.TheVariants as mode
-use Rattle.rc_keys.specs.Lexemes.{Lexeme, Remaining, words_of}
+use Rattle.rc_keys.specs.Lexemes.{Lexeme, words_of}
 use Rattle.rc_keys.specs.Phrases.{InTurn}
 use Rattle.rc_keys.proofs.Naming.{position_tells}
 use Rattle.rc_spef.specs.declared.value.Spef.{Spef}
@@ -18,8 +18,7 @@ use Rattle.rc_spef.specs.declared.key.Key.TheVariants as keys
 use Rattle.rc_spef.specs.Keys.{key_in, key_of}
 use Rattle.rc_spef.specs.References.{is_in_map}
 use Rattle.rc_spef.specs.Moves.{no_header}
-use Rattle.rc_spef.specs.Rows.{spef_outcome}
-use Rattle.rc_spef.specs.Text.{Token, Word, Quoted, lines_text, header, section, keyword, name_line, name_map, name_token, direction, port_line, ports_text, net_block, head_lines, spef_lines, spef_text}
+use Rattle.rc_spef.specs.Text.{Token, Word, Quoted, header, section, keyword, name_line, name_map, name_token, direction, port_line, ports_text, net_block, head_lines, spef_lines, spef_text}
 use Rattle.rc_spef.specs.Writable.{IsPlace, IsWritable, is_name}
 use Rattle.rc_spef.specs.HeaderLines.{HeaderSays, HeaderLine, is_remark, is_other_unit}
 use Rattle.rc_spef.specs.HeaderLines.HeaderSays.{Design, Remark, Flow, Divider, Delimiter, BusApart, OtherUnit, CapUnit, ResUnit}
@@ -30,7 +29,7 @@ use Rattle.rc_spef.proofs.Digits.{numbers_to, numbers_more, past_counted}
 use Rattle.rc_spef.proofs.Lexing.{IsToken, Tells, Written, split, no_line, first_line, lexed}
 use Rattle.rc_spef.proofs.Fair.{SpefFits, spef_fits, spef_fair}
 use Rattle.rc_spef.proofs.Spoken.{spelled, k_spef, k_design, k_date, k_vendor, k_program, k_version, k_flow, k_divider, k_delimiter, k_bus, k_time, k_farad, k_ohm, k_induct, k_names, k_ports, k_ff, k_ohms, k_colon, entry_says, name_says, named_says, direction_says, one_says}
-use Rattle.rc_spef.proofs.Written.{next_token, last_token, one_token, two_tokens, three_tokens, turn_none, turn_more, turns_written, nets_written}
+use Rattle.rc_spef.proofs.Written.{last_token, one_token, two_tokens, three_tokens, turn_none, turn_more, turns_written, nets_written}
 use Rattle.rc_spef.proofs.Files.{says_value}
 
 -- ---- sections behind an empty line

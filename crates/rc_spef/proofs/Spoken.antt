@@ -1,8 +1,8 @@
 -- What written tokens say.
-use Rattle.std.proofs.Common.{◌≡◌, ◌≢◌, ◌∙◌, ℕ, ◌+◌, ◌-◌, ◌^◌, ◌<◌, ◌≤◌, Bool, true, false, cond, drop, List, [], ◌∷◌, ◌++◌, length, refl, ap, sym, subst, arith, append-nil, inl, inr, Option, Some, None, Ok, Err}
-use Rattle.std.specs.Prelude.{◌⊎◌, ◌==◌, ◌&&◌, ◌||◌, not, nat_lt, position, slice_index, codes}
+use Rattle.std.proofs.Common.{◌≡◌, ◌∙◌, ℕ, ◌+◌, ◌-◌, ◌^◌, ◌<◌, ◌≤◌, Bool, true, false, drop, List, [], ◌∷◌, ◌++◌, length, refl, ap, sym, arith, append-nil, inl, inr, Some, Ok}
+use Rattle.std.specs.Prelude.{◌⊎◌, ◌==◌, ◌||◌, not, nat_lt, position, slice_index, codes}
 use Rattle.std.specs.Fmt.{decimal}
-use Rattle.std.specs.List.{list_any, before_first, after_first, position_or_len, range_with_len}
+use Rattle.std.specs.List.{position_or_len}
 use Rattle.std.specs.Str.Parse.{digits_value}
 use Rattle.std.proofs.lemmas.Bool.{cases_eq, ne_eqb, eq-eqb}
 use Rattle.std.proofs.lemmas.Bool.Decides.{nat_tests}
@@ -24,8 +24,8 @@ use Rattle.rc_spef.specs.declared.state.Scale.TheVariants as scales
 use Rattle.rc_spef.specs.declared.key.Key.{Key}
 use Rattle.rc_spef.specs.declared.key.Key.TheVariants as keys
 use Rattle.rc_spef.specs.Keys.{spef_keywords, key_in, key_of}
-use Rattle.rc_spef.specs.Text.{Token, Word, Quoted, sub_text, end_token, name_token, amount, direction, conn_kind}
-use Rattle.rc_spef.specs.References.{is_plain, is_colon, is_num, sub_of, name_at, behind_of, reference, begins_star, end_of, name_of}
+use Rattle.rc_spef.specs.Text.{Word, sub_text, end_token, name_token, amount, direction, conn_kind}
+use Rattle.rc_spef.specs.References.{is_colon, is_num, sub_of, name_at, behind_of, reference, begins_star, end_of, name_of}
 use Rattle.rc_spef.specs.Parts.{Says, Plain, Value, Entry, Name, Reference, EndOf, Direction, One}
 use Rattle.rc_spef.specs.Parts as parts
 use Rattle.rc_spef.specs.Writable.{IsPlace, IsSub, IsEnd, IsValue, is_word, is_name, begins_quote, begins_comment}

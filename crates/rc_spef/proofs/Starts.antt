@@ -1,5 +1,5 @@
 -- Numbers and references are no keywords.
-use Rattle.std.proofs.Common.{◌≡◌, ◌≢◌, ◌∙◌, ℕ, Bool, true, false, cond, drop, List, [], ◌∷◌, length, refl, ap, sym, arith, Some, Ok, Err}
+use Rattle.std.proofs.Common.{◌≡◌, ◌∙◌, ℕ, Bool, true, false, cond, drop, List, [], ◌∷◌, length, refl, ap, arith, Some, Ok, Err}
 use Rattle.std.specs.Prelude.{◌==◌, ◌&&◌, not, unwrap_or}
 use Rattle.std.specs.Int.{IsInRange}
 use Rattle.std.specs.List.{list_all}

@@ -1,16 +1,14 @@
 -- What the rows do with the tokens of attributes, and of what is passed over.
-use Rattle.std.proofs.Common.{◌≡◌, ◌∙◌, ℕ, Bool, true, false, List, [], ◌∷◌, ◌++◌, refl, ap, sym, Option, Some, None, Ok}
-use Rattle.rc_keys.specs.declared.token.Kind.TheVariants as kinds
+use Rattle.std.proofs.Common.{◌≡◌, ℕ, false, List, refl}
 use Rattle.rc_keys.specs.Lexemes.{Lexeme}
 use Rattle.rc_keys.specs.Course.{More, Done}
 use Rattle.rc_keys.specs.Statements.{at_line}
-use Rattle.rc_spef.specs.declared.value.SpefConn.{SpefConn}
 use Rattle.rc_spef.specs.declared.state.Row.{Row}
 use Rattle.rc_spef.specs.declared.state.Row.TheVariants as rows
 use Rattle.rc_spef.specs.declared.key.Key.{Key}
 use Rattle.rc_spef.specs.declared.key.Key.TheVariants as keys
 use Rattle.rc_spef.specs.Keys.{key_of, is_quoted}
-use Rattle.rc_spef.specs.NameRows.{port_tail_row, first_coordinate_row, passed_row, cell_row, with_cell, first_cell}
+use Rattle.rc_spef.specs.NameRows.{port_tail_row, first_coordinate_row, passed_row, cell_row, with_cell}
 use Rattle.rc_spef.specs.NetRows.{conn_tail_row}
 use Rattle.rc_spef.specs.Rows.{spef_turn}
 use Rattle.rc_spef.specs.Parts.{Says, AnyWord, Name}

@@ -1,5 +1,5 @@
 -- Rows that take tokens, statement by statement.
-use Rattle.std.proofs.Common.{◌≡◌, ◌∙◌, ℕ, List, [], ◌∷◌, ◌++◌, refl, ap, sym, Option, Some, None}
+use Rattle.std.proofs.Common.{◌≡◌, ◌∙◌, ℕ, List, [], ◌∷◌, ◌++◌, refl, ap, sym, None}
 use Rattle.std.proofs.lemmas.List.{append-nil}
 use Rattle.rc_keys.specs.Lexemes.{Lexeme}
 use Rattle.rc_keys.specs.Phrases.{InTurn, joined}

@@ -1,15 +1,12 @@
 -- Written lines are statements of the grammar.
-use Rattle.std.proofs.Common.{◌≡◌, ◌∙◌, ℕ, ◌+◌, ◌^◌, ◌<◌, ◌≤◌, Bool, true, false, List, [], ◌∷◌, ◌++◌, length, refl, ap, sym, subst, arith, append-nil, append_assoc, inl, inr, Option, Some, None, map}
-use Rattle.std.specs.Prelude.{◌⊎◌, IfSome, codes}
+use Rattle.std.proofs.Common.{◌≡◌, ◌∙◌, ℕ, ◌+◌, ◌^◌, ◌<◌, true, List, [], ◌∷◌, ◌++◌, length, refl, ap, sym, subst, append-nil, append_assoc, inl, inr, Option, Some, None, map}
+use Rattle.std.specs.Prelude.{IfSome, codes}
 use Rattle.std.specs.Fmt.{decimal}
-use Rattle.std.specs.List.{AllByRecursion, FoldsTo, flat_map, enumerate_from, list_any}
-use Rattle.std.specs.Str.{bytes_eq}
+use Rattle.std.specs.List.{AllByRecursion, flat_map, enumerate_from}
 use Rattle.std.proofs.lemmas.List.{map-id}
-use Rattle.rc_fixed.specs.declared.decimal.Fixed.{Fixed}
 use Rattle.rc_keys.specs.declared.token.Kind.TheVariants as kinds
 use Rattle.rc_keys.specs.Lexemes.{Lexeme}
-use Rattle.rc_keys.specs.Phrases.{InTurn, joined}
-use Rattle.rc_spef.specs.declared.value.SpefPort.{SpefPort}
+use Rattle.rc_keys.specs.Phrases.{InTurn}
 use Rattle.rc_spef.specs.declared.value.SpefConn.{SpefConn}
 use Rattle.rc_spef.specs.declared.value.SpefRes.{SpefRes}
 use Rattle.rc_spef.specs.declared.value.DNet.{DNet}
@@ -18,12 +15,10 @@ use Rattle.rc_spef.specs.declared.value.End.{End}
 use Rattle.rc_spef.specs.declared.state.Scale.TheVariants as scales
 use Rattle.rc_spef.specs.declared.key.Key.{Key}
 use Rattle.rc_spef.specs.declared.key.Key.TheVariants as keys
-use Rattle.rc_spef.specs.Keys.{key_in, key_of}
-use Rattle.rc_spef.specs.Text.{Token, Word, Quoted, section, keyword, name_token, name_line, direction, port_line, end_token, second_end, amount, cell, conn_kind, conn_line, cap_line, resistor_line, net_line, net_block}
-use Rattle.rc_spef.specs.Writable.{IsPlace, IsEnd, IsValue, IsConn, IsCap, IsResistor, IsNet, is_name}
-use Rattle.rc_spef.specs.Parts as parts
-use Rattle.rc_spef.specs.Parts.{Plain, Value, Reference, EndOf, Direction, Name, Are}
-use Rattle.rc_spef.specs.NetLines.{Attribute, WithAttributes, PortLine, ConnLine, conn_word, CapLine, ResLine, Section, NetBlock, NetLine, first_of}
+use Rattle.rc_spef.specs.Keys.{key_in}
+use Rattle.rc_spef.specs.Text.{Token, Word, section, keyword, name_token, direction, end_token, second_end, amount, cell, conn_kind, conn_line, cap_line, resistor_line, net_line, net_block}
+use Rattle.rc_spef.specs.Writable.{IsEnd, IsConn, IsCap, IsResistor, is_name}
+use Rattle.rc_spef.specs.NetLines.{Attribute, ConnLine, CapLine, ResLine, Section, NetBlock, NetLine}
 use Rattle.rc_spef.specs.NetLines.Attribute.{Driven}
 use Rattle.rc_spef.specs.NetLines.ConnLine.{Connects}
 use Rattle.rc_spef.specs.NetLines.CapLine.{Grounded, Coupled}

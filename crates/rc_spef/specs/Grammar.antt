@@ -1,7 +1,6 @@
 -- What a SPEF text says, as a relation: the parts of a text and the value that they give, after the SPEF chapter of IEEE 1481.
-use Rattle.std.specs.Prelude.{◌≡◌, ◌↔◌, ◌++◌, ℕ, true, Option, Some, None, Ok, List, [], ◌∷◌}
-use Rattle.rc_keys.specs.declared.token.Mode.TheVariants as mode
-use Rattle.rc_keys.specs.Lexemes.{Lexeme, Remaining, words_of}
+use Rattle.std.specs.Prelude.{◌≡◌, ◌++◌, ℕ, Some, None, List, [], ◌∷◌}
+use Rattle.rc_keys.specs.Lexemes.{Lexeme, Remaining}
 use Rattle.rc_keys.specs.Phrases.{InTurn}
 use Rattle.rc_spef.specs.declared.value.Spef.{Spef}
 use Rattle.rc_spef.specs.declared.state.Header.{Header}
@@ -10,7 +9,7 @@ use Rattle.rc_spef.specs.declared.key.Key.TheVariants as keys
 use Rattle.rc_spef.specs.Moves.{no_header}
 use Rattle.rc_spef.specs.Parts.{Word, AnyQuoted, Are}
 use Rattle.rc_spef.specs.HeaderLines.{HeaderLine}
-use Rattle.rc_spef.specs.NetLines.{Names, no_names, NameLine, PortLine, NetLine, Section}
+use Rattle.rc_spef.specs.NetLines.{no_names, NameLine, PortLine, NetLine, Section}
 
 -- a text: `*SPEF` and a quoted version, words of the header, the map of names, the ports, and nets
 pub record IsSpef (text : Remaining) (spef : Spef) : Type 0 where

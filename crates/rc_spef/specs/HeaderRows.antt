@@ -1,5 +1,5 @@
 -- The rows of a SPEF header: what a token does in each place.
-use Rattle.std.specs.Prelude.{◌++◌, ◌==◌, ◌&&◌, ◌||◌, ◌^◌, ℕ, Bool, true, false, not, Option, Some, None, is_some, Result, Ok, Err, List, [], ◌∷◌, length, slice_index, if◌then◌else◌}
+use Rattle.std.specs.Prelude.{◌++◌, ◌==◌, ◌&&◌, ◌^◌, ℕ, Bool, true, false, not, Option, Some, None, is_some, [], ◌∷◌, length, slice_index, if◌then◌else◌}
 use Rattle.std.specs.List.{list_any}
 use Rattle.std.specs.Str.{bytes_eq}
 use Rattle.rc_fixed.specs.declared.decimal.Fixed.{Fixed}
@@ -8,7 +8,6 @@ use Rattle.rc_keys.specs.Lexemes.{Lexeme}
 use Rattle.rc_keys.specs.Course.{Turn, Done, refuse}
 use Rattle.rc_spef.specs.declared.state.Header.{Header}
 use Rattle.rc_spef.specs.declared.state.State.{State}
-use Rattle.rc_spef.specs.declared.state.Scale.{Scale}
 use Rattle.rc_spef.specs.declared.state.Scale.TheVariants as scales
 use Rattle.rc_spef.specs.declared.state.Row.{Row}
 use Rattle.rc_spef.specs.declared.state.Row.TheVariants as rows

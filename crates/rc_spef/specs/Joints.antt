@@ -1,5 +1,5 @@
 -- What the code keeps of couplings, against the definitions.
-use Rattle.std.specs.Prelude.{◌≡◌, ◌==◌, ◌&&◌, ◌||◌, not, ℕ, Bool, true, false, Option, Some, None, List, [], ◌∷◌, map, length, nat_eq, unwrap_or, count_by}
+use Rattle.std.specs.Prelude.{◌≡◌, ◌==◌, ◌||◌, ℕ, Bool, true, false, Option, Some, None, List, map, length, nat_eq, unwrap_or, count_by}
 use Rattle.std.specs.HashMap.{HashMap, get}
 use Rattle.std.specs.Map.{lookup}
 use Rattle.rc_spef.specs.declared.value.DNet.{DNet}

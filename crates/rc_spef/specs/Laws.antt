@@ -1,5 +1,5 @@
 -- What holds of the definitions.
-use Rattle.std.specs.Prelude.{◌≡◌, ◌++◌, ℕ, List, Ok}
+use Rattle.std.specs.Prelude.{◌≡◌, ◌↔◌, ◌++◌, ℕ, List, Ok}
 use Rattle.std.specs.List.{flat_map}
 use Rattle.rc_keys.specs.declared.token.Mode.TheVariants as mode
 use Rattle.rc_keys.specs.Lexemes.{words_of}
@@ -13,9 +13,9 @@ use Rattle.rc_spef.specs.Writable.{IsWritable}
 abbrev pub HeadAndBlocks : Type 0
 HeadAndBlocks = (spef : Spef) → spef_text spef ≡ head_text spef ++ flat_map net_text spef.nets
 
--- a text that says a value by the grammar is read as that value
-abbrev pub ReadsWhatIsSaid : Type 0
-ReadsWhatIsSaid = (text : List ℕ) (spef : Spef) → IsSpef (words_of mode.Spef text) spef → spef_outcome text ≡ Ok spef
+-- a text is read as a value exactly where it says that value by the grammar
+abbrev pub AcceptsWhatIsSaid : Type 0
+AcceptsWhatIsSaid = (text : List ℕ) (spef : Spef) → (spef_outcome text ≡ Ok spef) ↔ IsSpef (words_of mode.Spef text) spef
 
 -- so it says one value
 abbrev pub SaysOneValue : Type 0

@@ -1,6 +1,5 @@
 -- What is read of a SPEF text so far, and what all rows share.
-use Rattle.std.specs.Prelude.{ℕ, Bool, true, false, Option, Some, None, Result, Ok, Err, List, [], ◌∷◌, if◌then◌else◌}
-use Rattle.std.specs.Str.{bytes_eq}
+use Rattle.std.specs.Prelude.{ℕ, Bool, true, false, Option, Some, None, Result, Ok, Err, List, [], if◌then◌else◌}
 use Rattle.rc_fixed.specs.declared.decimal.Fixed.{Fixed}
 use Rattle.rc_fixed.specs.declared.fault.NumFault.{NumFault}
 use Rattle.rc_fixed.specs.Numeral.{fixed_of}

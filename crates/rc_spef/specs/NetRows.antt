@@ -1,5 +1,5 @@
 -- The rows of a net.
-use Rattle.std.specs.Prelude.{◌++◌, ◌&&◌, ℕ, Bool, true, false, not, Option, Some, None, Result, Ok, Err, List, [], ◌∷◌, if◌then◌else◌}
+use Rattle.std.specs.Prelude.{◌++◌, ◌&&◌, ℕ, Bool, true, false, not, Option, Some, None, Result, Ok, Err, [], ◌∷◌, if◌then◌else◌}
 use Rattle.rc_fixed.specs.declared.decimal.Fixed.{Fixed}
 use Rattle.rc_keys.specs.declared.code.Code.{Code}
 use Rattle.rc_keys.specs.declared.code.Code.TheVariants.{E05}
@@ -10,7 +10,6 @@ use Rattle.rc_spef.specs.declared.value.Dir3.{Dir3}
 use Rattle.rc_spef.specs.declared.state.State.{State}
 use Rattle.rc_spef.specs.declared.state.ConnKind.{ConnKind}
 use Rattle.rc_spef.specs.declared.state.ConnKind.TheVariants as conn_kinds
-use Rattle.rc_spef.specs.declared.state.Row.{Row}
 use Rattle.rc_spef.specs.declared.state.Row.TheVariants as rows
 use Rattle.rc_spef.specs.declared.key.Key.{Key}
 use Rattle.rc_spef.specs.declared.key.Key.TheVariants as keys

@@ -1,5 +1,5 @@
 -- How statements of SPEF are written down: keywords, quoted texts, names, references and numbers.
-use Rattle.std.specs.Prelude.{◌≡◌, ℕ, Bool, true, false, Option, Some, None, Ok, List, [], ◌∷◌, drop}
+use Rattle.std.specs.Prelude.{◌≡◌, ℕ, true, false, Some, Ok, List, [], ◌∷◌, drop}
 use Rattle.std.specs.Str.Parse.{digits_value}
 use Rattle.rc_fixed.specs.declared.decimal.Fixed.{Fixed}
 use Rattle.rc_fixed.specs.Numeral.{fixed_of}

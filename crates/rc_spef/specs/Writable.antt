@@ -1,5 +1,5 @@
 -- The values that can be written and read back.
-use Rattle.std.specs.Prelude.{ℕ, Bool, true, false, List, [], ◌∷◌, ◌<◌, ◌≤◌, ◌^◌, ◌==◌, ◌&&◌, ◌||◌, not, length, IsTrue, IfSome}
+use Rattle.std.specs.Prelude.{ℕ, Bool, false, List, [], ◌∷◌, ◌<◌, ◌≤◌, ◌^◌, ◌==◌, ◌&&◌, ◌||◌, not, length, IsTrue, IfSome}
 use Rattle.std.specs.List.{list_all, AllByRecursion}
 use Rattle.rc_keys.specs.Pieces.{is_graphic, IsQuotable}
 use Rattle.rc_spef.specs.declared.value.Spef.{Spef}

@@ -1,15 +1,15 @@
 //! What holds of the definitions that the contracts cite. Nothing is computed here.
 
-ghost use Rattle.rc_spef.specs.Laws.{HeadAndBlocks, ReadsWhatIsSaid, SaysOneValue, SaysItsValue, ReadsBack};
+ghost use Rattle.rc_spef.specs.Laws.{HeadAndBlocks, AcceptsWhatIsSaid, SaysOneValue, SaysItsValue, ReadsBack};
 
 /// The text of a value is what [`crate::head_text`] writes and then the blocks of its nets, as [`crate::block_text`] writes them.
 pub fn head_and_blocks()
     ensures { HeadAndBlocks }
 {}
 
-/// A text that says a value by the grammar is read as that value, and so says one value.
+/// A text is read as a value exactly where it says that value by the grammar, and so it says one value.
 pub fn grammar_is_read()
-    ensures reads { ReadsWhatIsSaid }
+    ensures accepts { AcceptsWhatIsSaid }
     ensures one { SaysOneValue }
 {}
 

@@ -17,8 +17,8 @@ use crate::value::Spef;
 use rc_keys::{Code, Ending, Fault, Mode, Refusal};
 use std::alloc::Global;
 
-/// Reads a SPEF text (IEEE 1481, the chapter on SPEF, in the profile of [`crate::Spef`]). A text that says a value by the grammar is
-/// read as that value, and so is what [`crate::text`] wrote.
+/// Reads a SPEF text (IEEE 1481, the chapter on SPEF, in the profile of [`crate::Spef`]). A text is read as a value exactly where it
+/// says that value by the grammar, and what [`crate::text`] wrote says the value that it was given.
 ///
 /// # Errors
 ///
@@ -30,6 +30,7 @@ pub fn read(alloc: Global, text: &[u8]) -> Result<Spef, Fault>
     requires { length text.now ≤ 2 ^ 30 }
     ensures value { IfOk result (λ spef. spef_outcome text.now ≡ Ok spef) }
     ensures refused { IfErr result (IsRefused (spef_outcome text.now)) }
+    ensures says { IfOk result (λ spef. IsSpef (words_of mode.Spef text.now) spef) }
     ensures said { (spef : SpefOf) → IsSpef (words_of mode.Spef text.now) spef → ReadsAs result spef }
     ensures back { (spef : SpefOf) → IsWritable spef → text.now ≡ spef_text spef → ReadsAs result spef }
 {

@@ -1,4 +1,4 @@
-use Rattle.std.proofs.Common.{sym, ap, ◌∙◌, subst, map, take}
+use Rattle.std.proofs.Common.{sym, ap, ◌∙◌, subst, map}
 use Rattle.std.proofs.lemmas.List.{take_all}
 use Rattle.rc_spef.specs.Joints.{seen, pair_of}
 use Rattle.rc_spef.proofs.Joining.{Apart, kept_more, apart_kept, twice_kept, once}

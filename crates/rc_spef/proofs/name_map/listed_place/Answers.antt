@@ -1,4 +1,4 @@
-use Rattle.std.proofs.Common.{sym, ◌∙◌}
+use Rattle.std.proofs.Common.{◌∙◌}
 use Rattle.rc_spef.proofs.Digits.{place_listed}
 use Rattle.rc_spef.proofs.name_map.listed_place.Goals as goal
 

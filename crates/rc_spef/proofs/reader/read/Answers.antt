@@ -4,6 +4,7 @@ use Rattle.rc_keys.specs.Course.{Read, Refuses, Unfinished}
 use Rattle.rc_spef.specs.declared.value.Spef.{Spef}
 use Rattle.rc_keys.specs.declared.code.Code.TheVariants.{E16}
 use Rattle.rc_keys.specs.declared.fault.Refusal.TheVariants.{At}
+use Rattle.rc_spef.proofs.Accepted.{accepts}
 use Rattle.rc_spef.proofs.Outcomes.{comes_to}
 use Rattle.rc_spef.proofs.Files.{read_as, refused_says_none}
 use Rattle.rc_spef.proofs.RoundTrip.{said}
@@ -21,6 +22,9 @@ returns-in-Refuses-clause-refused c =
 pub returns-in-Unfinished-clause-refused : goal.returns-in-Unfinished-clause-refused
 returns-in-Unfinished-clause-refused c =
     comes_to c.args.text.now c.new-state.result (Unfinished c.in-Unfinished.begun c.in-Unfinished.last) c.new-state.ensures (rw c.in-Unfinished.is at c.in_ok-read.ensures)
+
+pub returns-in-Read-clause-says : goal.returns-in-Read-clause-says
+returns-in-Read-clause-says c = (accepts c.args.text.now _).0 (returns-in-Read-clause-value c)
 
 pub returns-in-Read-clause-said : goal.returns-in-Read-clause-said
 returns-in-Read-clause-said c spef says = read_as c.args.text.now _ spef (returns-in-Read-clause-value c) says

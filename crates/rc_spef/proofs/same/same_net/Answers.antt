@@ -1,4 +1,3 @@
-use Rattle.std.proofs.Common.{◌≡◌, Some, ap, sym, ◌∙◌}
 use Rattle.rc_spef.proofs.Alike.{nets_told, found}
 use Rattle.rc_spef.proofs.same.same_net.Goals as goal
 

@@ -1,4 +1,4 @@
-use Rattle.std.proofs.Common.{ℕ, List, ◌+◌, ap, sym, ◌∙◌, arith, subst, map}
+use Rattle.std.proofs.Common.{ℕ, List, ◌+◌, ap, sym, ◌∙◌, arith, subst}
 use Rattle.std.specs.Str.Parse.{digits_value}
 use Rattle.rc_spef.specs.References.{is_in_map}
 use Rattle.rc_spef.proofs.Digits.{IsShort, any_listed, kept_more}
