@@ -35,9 +35,6 @@ use Rattle.rc_def.proofs.Fitting.{inside, in_paths, Fits}
 use Rattle.rc_def.proofs.Holding as holding
 use Rattle.rc_def.proofs.Holding.{Both, AreEnclosures, IsBoxed, IsWide, IsPlaced, IsSpot, HoldLists, HoldVia, HoldPin, HoldNet, ByKind, IsDraft, is_special, points, ones, enclosures, boxes, one_box, box_count, either_one, one_new, new_count}
 
-clash : {A : Type 0} (b : Bool) → b ≡ true → b ≡ false → A
-clash b e f = let g : true ≡ false = sym e ∙ f in absurd cc
-
 -- a fact of the kind that one section has
 kind_at : (section kind : Section) (paths : List RawPath) → section ≡ kind → ByKind kind paths → ByKind section paths
 kind_at section kind paths e h = subst (λ s. ByKind s paths) (sym e) h

@@ -292,12 +292,6 @@ patch_is v (a ∷ b ∷ []) i (thin, s) near = goes_on v stages.Steps v.steps i 
 patch_is v (a ∷ b ∷ c ∷ []) i (thin, s) near = goes_on v stages.Steps v.steps i refl (i.path s)
 patch_is v (a ∷ b ∷ c ∷ d ∷ e ∷ others) i (thin, s) near = goes_on v stages.Steps v.steps i refl (i.path s)
 
-none : (z : ℤ) → ⊥ → ⊥
-none z h = h
-
-same : (P : ℤ → Type 0) (z : ℤ) → P z → P z
-same P z h = h
-
 no_rule : (is_wide : Bool) (v w : Wiring) → is_wide ≡ false → w.width ≡ v.width → HasHead is_wide v → HasHead is_wide w
 no_rule true v w e same h = absurd cc
 no_rule false v w e same h = same ∙ h
