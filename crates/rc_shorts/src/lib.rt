@@ -1,0 +1,15 @@
+//! The shorts of a layout: where metal of different nets meets. Of all shorts exactly the first is found.
+#![tactic(auto)]
+
+mod cell;
+mod compare;
+mod divide;
+mod first;
+pub mod laws;
+mod near;
+mod order;
+mod search;
+mod shape;
+
+pub use first::{first_among, short_among_with, short_near};
+pub use shape::{Shape, Short};
