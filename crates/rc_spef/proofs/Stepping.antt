@@ -180,8 +180,11 @@ module _ (line : ℕ) (t : State) where
       let r = port_rest line t k left rest m.2 in
       let now : Known = record k { ports = k.ports ++ record { name = m.0; dir = r.0 } ∷ [] } in
       AtPortTail now left nets (on (Named k) (InPorts k k.ports) (OpenPort now) words (word ∷ rest) b
-      (λ front inside. (k.ports, add (InPorts k k.ports) (λ ws. PortLine k.map k.ports ws now.ports) front (word ∷ rest) inside
-      (record { name = m.0; dir = r.0; cell = None; are = without_attributes _ (word ∷ rest) (m.1, r.1); then = refl })))) r.2
+      (λ front inside. (
+        k.ports,
+        add (InPorts k k.ports) (λ ws. PortLine k.map k.ports ws now.ports) front (word ∷ rest) inside
+            (record { name = m.0; dir = r.0; cell = None; are = without_attributes _ (word ∷ rest) (m.1, r.1); then = refl }),
+      ))) r.2
 
   port_keeps : (k : Known) (z : Left) (words : List Lexeme) (word : Lexeme) (rest : List Lexeme) → k.nets ≡ [] → Behind (Named k) (OpenPort k) words → ((cell : Option (List ℕ)) → (now : Option (List ℕ)) × Attribute cell (word ∷ rest) now) → t ≡ at rows.PortTail k z → Ending words word rest
   port_keeps k z words word rest nets b says is =
