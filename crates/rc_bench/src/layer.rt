@@ -2,6 +2,7 @@
 
 use crate::input::Input;
 use rc_keys::Words;
+use rc_lef::{Tech, TechReader};
 use std::alloc::Global;
 
 /// A layer of the program.
@@ -11,6 +12,8 @@ pub enum Layer {
     Tokens,
     /// Reading the texts as DEF files.
     Def,
+    /// Reading each of the texts as a LEF file.
+    Lef,
 }
 
 impl Layer {
@@ -19,6 +22,7 @@ impl Layer {
         match name {
             "tokens" => Some(Layer::Tokens),
             "def" => Some(Layer::Def),
+            "lef" => Some(Layer::Lef),
             _ => None,
         }
     }
@@ -28,6 +32,7 @@ impl Layer {
         match self {
             Layer::Tokens => "tokens",
             Layer::Def => "nets",
+            Layer::Lef => "definitions",
         }
     }
 
@@ -40,6 +45,10 @@ impl Layer {
             Layer::Def => inputs.iter().fold(
                 0,
                 |count: u64, input| count.saturating_add(nets(alloc, input)),
+            ),
+            Layer::Lef => inputs.iter().fold(
+                0,
+                |count: u64, input| count.saturating_add(defined(alloc, input)),
             ),
         }
     }
@@ -68,6 +77,32 @@ fn nets(alloc: Global, input: &Input) -> u64 {
     }
     match rc_def::read(alloc, text) {
         Ok(design) => (design.nets.len() as u64).saturating_add(design.specials.len() as u64),
+        Err(_) => 0,
+    }
+}
+
+/// How many layers, vias, cells and nondefault rules a technology has.
+fn definitions(tech: &Tech) -> u64 {
+    let lists = [
+        tech.layers().len(),
+        tech.vias().len(),
+        tech.macros().len(),
+        tech.rules().len(),
+    ];
+    lists
+        .iter()
+        .fold(0, |count: u64, len| count.saturating_add(*len as u64))
+}
+
+/// How many things a text defines as a LEF file; 0 where it is none.
+fn defined(alloc: Global, input: &Input) -> u64 {
+    let text = input.text.items();
+    if text.len() > 1 << 30 {
+        return 0;
+    }
+    let mut reader = TechReader::new(alloc);
+    match reader.file(text) {
+        Ok(()) => definitions(&reader.finish()),
         Err(_) => 0,
     }
 }

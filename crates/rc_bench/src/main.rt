@@ -13,7 +13,7 @@ use std::{env, io};
 
 const USAGE: &str = "usage: rc_bench LAYER TURNS FILE..
 Runs one layer of the program over the files, so many times, and prints what it counted in a turn and the seconds of the best one.
-Layers: tokens, def
+Layers: tokens, def, lef
 ";
 
 /// The words after the program's name.
