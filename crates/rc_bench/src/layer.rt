@@ -1,6 +1,8 @@
 //! The layers that are timed. A further layer is a variant with its name, what it counts, and its turn.
 
 use crate::input::Input;
+use crate::linked;
+use rc_io::Gather;
 use rc_keys::Words;
 use rc_lef::{Tech, TechReader};
 use std::alloc::Global;
@@ -14,6 +16,16 @@ pub enum Layer {
     Def,
     /// Reading each of the texts as a LEF file.
     Lef,
+    /// Reading the texts as SPEF files.
+    Spef,
+    /// Reading the texts as SPEF files, and writing what was read into memory.
+    Rewrite,
+    /// Reading the LEF files and the DEF file, and linking them.
+    Link,
+    /// That, and looking for the first short.
+    Shorts,
+    /// That of linking, the rule file, and the nodes, tiles and resistors of all nets.
+    Nodes,
 }
 
 impl Layer {
@@ -23,6 +35,11 @@ impl Layer {
             "tokens" => Some(Layer::Tokens),
             "def" => Some(Layer::Def),
             "lef" => Some(Layer::Lef),
+            "spef" => Some(Layer::Spef),
+            "rewrite" => Some(Layer::Rewrite),
+            "link" => Some(Layer::Link),
+            "shorts" => Some(Layer::Shorts),
+            "nodes" => Some(Layer::Nodes),
             _ => None,
         }
     }
@@ -33,22 +50,34 @@ impl Layer {
             Layer::Tokens => "tokens",
             Layer::Def => "nets",
             Layer::Lef => "definitions",
+            Layer::Spef => "nets",
+            Layer::Rewrite => "bytes",
+            Layer::Link | Layer::Shorts => "items",
+            Layer::Nodes => "tiles and resistors",
+        }
+    }
+
+    /// What it counts in one text.
+    fn count(self, alloc: Global, input: &Input) -> u64 {
+        match self {
+            Layer::Tokens => tokens(input),
+            Layer::Def => nets(alloc, input),
+            Layer::Lef => defined(alloc, input),
+            Layer::Spef => blocks(alloc, input),
+            Layer::Rewrite => rewritten(alloc, input),
+            Layer::Link | Layer::Shorts | Layer::Nodes => 0,
         }
     }
 
     /// Does its work once over all inputs, and answers its count.
     pub fn turn(self, alloc: Global, inputs: &[Input]) -> u64 {
         match self {
-            Layer::Tokens => inputs
-                .iter()
-                .fold(0, |count: u64, input| count.saturating_add(tokens(input))),
-            Layer::Def => inputs.iter().fold(
+            Layer::Link => linked::shapes(alloc, inputs),
+            Layer::Shorts => linked::shapes_apart(alloc, inputs),
+            Layer::Nodes => linked::parts(alloc, inputs),
+            _ => inputs.iter().fold(
                 0,
-                |count: u64, input| count.saturating_add(nets(alloc, input)),
-            ),
-            Layer::Lef => inputs.iter().fold(
-                0,
-                |count: u64, input| count.saturating_add(defined(alloc, input)),
+                |count: u64, input| count.saturating_add(self.count(alloc, input)),
             ),
         }
     }
@@ -60,7 +89,7 @@ fn tokens(input: &Input) -> u64 {
     if text.len() > 1 << 30 {
         return 0;
     }
-    let mut words = Words::new(input.mode, text);
+    let mut words = Words::new(input.kind.mode(), text);
     for count in 0..text.len() {
         if words.next_word().is_none() {
             return count as u64;
@@ -103,6 +132,34 @@ fn defined(alloc: Global, input: &Input) -> u64 {
     let mut reader = TechReader::new(alloc);
     match reader.file(text) {
         Ok(()) => definitions(&reader.finish()),
+        Err(_) => 0,
+    }
+}
+
+/// How many nets a SPEF file has. A text that is refused has none.
+fn blocks(alloc: Global, input: &Input) -> u64 {
+    let text = input.text.items();
+    if text.len() > 1 << 30 {
+        return 0;
+    }
+    match rc_spef::read(alloc, text) {
+        Ok(spef) => spef.nets.len() as u64,
+        Err(_) => 0,
+    }
+}
+
+/// How many bytes what a SPEF file says has when it is written. A text that is refused has none.
+fn rewritten(alloc: Global, input: &Input) -> u64 {
+    let text = input.text.items();
+    if text.len() > 1 << 30 {
+        return 0;
+    }
+    let Ok(spef) = rc_spef::read(alloc, text) else {
+        return 0;
+    };
+    let mut sink = Gather::new(alloc);
+    match rc_spef::text(&spef, &mut sink) {
+        Ok(()) => sink.bytes().len() as u64,
         Err(_) => 0,
     }
 }

@@ -3,6 +3,7 @@
 
 mod input;
 mod layer;
+mod linked;
 mod turns;
 
 use anyhow::Context;
@@ -13,7 +14,7 @@ use std::{env, io};
 
 const USAGE: &str = "usage: rc_bench LAYER TURNS FILE..
 Runs one layer of the program over the files, so many times, and prints what it counted in a turn and the seconds of the best one.
-Layers: tokens, def, lef
+Layers: tokens, def, lef, spef, rewrite, link, shorts, nodes
 ";
 
 /// The words after the program's name.

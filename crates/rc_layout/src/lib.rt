@@ -1,0 +1,51 @@
+//! Linked nets: the items that are drawn, the points that their paths go through, and what they connect.
+#![tactic(auto)]
+
+mod access;
+mod comp;
+mod conn;
+mod draw;
+mod edit;
+mod firsts;
+mod given;
+mod item;
+pub mod laws;
+mod layout;
+mod linking;
+mod lists;
+mod net;
+mod own_via;
+mod part;
+mod parts;
+mod path;
+mod pen;
+mod piece;
+mod port;
+mod process;
+mod rule;
+mod signal;
+mod special;
+mod spot;
+mod steps;
+mod stroke;
+mod via;
+mod wide;
+mod wired;
+mod wiring;
+
+pub use draw::draw_paths;
+pub use firsts::{Firsts, Name};
+pub use given::Tables;
+pub use item::{Item, ItemKind};
+pub use layout::Layout;
+pub use linking::link;
+pub use lists::{Head, Lists, RawLists};
+pub use net::{Conn, Net};
+pub use own_via::Sizes;
+pub use part::{Comp, Port, Rule};
+pub use parts::Parts;
+pub use process::Process;
+pub use stroke::{Stop, Stroke, Style};
+pub use wide::{WidePt, WideRect};
+pub use wired::Wired;
+pub use wiring::{Pen, Wiring};

@@ -1,0 +1,10 @@
+use Rattle.std.proofs.Common.{rules}
+use Rattle.std.proofs.lemmas.List.Sorted.{IsPartitionPoint-from_clause}
+use Rattle.rc_nodes.specs.Crossings.{starts_before}
+use Rattle.rc_nodes.proofs.Crossed.{parted_by_start}
+use Rattle.rc_nodes.proofs.crossing.first_met.Goals as goal
+
+pub returns-clause-parted : goal.returns-clause-parted
+returns-clause-parted c =
+    let parted = parted_by_start c.args.probe.now c.args.others.now c.requires in
+    IsPartitionPoint-from_clause (starts_before c.args.probe.now) _ _ c.partition_point.ensures.partitioned parted (λ a r q k. search rules)

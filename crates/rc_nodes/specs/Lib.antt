@@ -1,0 +1,13 @@
+pub mod Nodes
+pub mod NetPlane
+pub mod Shares
+pub mod Laws
+pub mod Wires
+pub mod Vias
+pub mod Contacts
+pub mod Counts
+pub mod LayoutPlane
+pub mod Lines
+pub mod Crossings
+pub mod Pins
+pub mod Resistors

@@ -1,0 +1,8 @@
+use Rattle.std.proofs.Common.{◌≡◌, ◌++◌, map, take}
+use Rattle.std.specs.List.{enumerate_from}
+use Rattle.rc_shorts.specs.OfLayouts.{metal_of}
+use Rattle.rc_shorts.specs.Places.{shape_of}
+use Rattle.rc_shorts.proofs.linked.put_items.Given as goal
+
+abbrev pub invariant-loop-place : goal.invariant-loop-place
+invariant-loop-place l = l.list.items ≡ l.initial.list.items ++ map (shape_of l.net) (take l.place (enumerate_from 0 (map metal_of l.items)))
