@@ -45,8 +45,8 @@ fn rects(line: &mut String, rects: &[(u8, Rect)]) -> anyhow::Result<()> {
 fn layer(line: &mut String, layer: &Layer) -> anyhow::Result<()> {
     write!(line, "; layer {}", text_of(&layer.name))?;
     match layer.kind {
-        LayerKind::Routing(number) => write!(line, " R{number}")?,
-        LayerKind::Cut(number) => write!(line, " C{number}")?,
+        LayerKind::Routing(number) => write!(line, " routing {number}")?,
+        LayerKind::Cut(number) => write!(line, " cut {number}")?,
         LayerKind::Other => write!(line, " O")?,
     }
     Ok(write!(line, " {}", layer.width)?)
