@@ -26,7 +26,7 @@ pub fn read_fault_line(alloc: Global, name: &str) -> Result<Text, NoMemory>
     let mut line = Vec::from_slice(alloc, b"rcx: read fault ")?;
     line.extend_from_slice(name.as_bytes())?;
     line.push(b'\n')?;
-    Ok(Text::from_vec(line))
+    Text::from_vec(alloc, line)
 }
 
 /// E04: the line of a file that hasn't the reduced form.
@@ -40,7 +40,7 @@ pub fn form_line(alloc: Global, name: &str) -> Result<Text, NoMemory>
     let mut line = Vec::from_slice(alloc, b"rcx: E04 ")?;
     line.extend_from_slice(name.as_bytes())?;
     line.extend_from_slice(b" 1\n")?;
-    Ok(Text::from_vec(line))
+    Text::from_vec(alloc, line)
 }
 
 /// E13: the line of two nets that meet on a layer: their names, the layer's, and the lower left corner of what their shapes have in
@@ -70,7 +70,7 @@ pub fn short_line(
     line.push(b' ')?;
     line.extend_from_slice(Buffer::new().format(corner.y).as_bytes())?;
     line.push(b'\n')?;
-    Ok(Text::from_vec(line))
+    Text::from_vec(alloc, line)
 }
 
 /// E14: the line of files with more bytes than a run may read.

@@ -6,4 +6,4 @@ use Rattle.rc_fixed.specs.declared.text.Kept.TheVariants.{Within, Apart}
 -- the bytes, wherever they stand
 abbrev pub kept_bytes : Kept → List ℕ
 kept_bytes (Within word) = word
-kept_bytes (Apart bytes) = bytes.items
+kept_bytes (Apart bytes) = bytes.value.items

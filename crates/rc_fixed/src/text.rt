@@ -12,19 +12,20 @@ use std::marker::Model;
 enum Kept {
     /// In the text itself.
     Within(Word),
-    /// In memory of their own.
-    Apart(Vec<u8>),
+    /// In memory of their own, and their vector behind a pointer: long texts are few, and so each text is as short as a
+    /// word.
+    Apart(Box<Vec<u8>>),
 }
 
 /// Bytes of any value. Contracts see the list of them.
 ///
-/// Up to 22 bytes stand in the text itself, more in memory of their own. A text takes 32 bytes beside that memory.
+/// Up to 22 bytes stand in the text itself, more in memory of their own. A text takes 24 bytes beside that memory.
 #[derive(Debug, Drop)]
 pub struct Text {
     kept: Kept,
 }
 
-const _: () = prove!(size_of::<Text>() == 32);
+const _: () = prove!(size_of::<Text>() == 24);
 
 impl Model for Text {
     ghost use Rattle.std.specs.Prelude.{List, ℕ};
@@ -56,23 +57,35 @@ impl Text {
             });
         }
         let bytes = Vec::from_slice(alloc, bytes)?;
+        Text::apart(alloc, bytes)
+    }
+
+    /// The bytes of this vector, which stays where it is.
+    fn apart(alloc: Global, bytes: Vec<u8>) -> Result<Text, NoMemory>
+        ensures { IfOk result (λ text. text ≡ bytes.items) }
+    {
+        let bytes = Box::new(alloc, bytes)?;
         Ok(Text {
             kept: Kept::Apart(bytes),
         })
     }
 
-    /// The bytes of this vector: more than 22 without a copy, fewer out of its memory, which is given back.
-    pub fn from_vec(bytes: Vec<u8>) -> Text
-        ensures { result ≡ bytes.items }
+    /// The bytes of this vector: more than 22 without a copy of them, fewer out of its memory, which is given back, and
+    /// so without want of memory.
+    ///
+    /// # Errors
+    ///
+    /// `NoMemory` for want of memory.
+    pub fn from_vec(alloc: Global, bytes: Vec<u8>) -> Result<Text, NoMemory>
+        ensures bytes { IfOk result (λ text. text ≡ bytes.items) }
+        ensures short { length bytes.items ≤ 22 → IsOk result }
     {
         if bytes.len() <= ROOM {
-            return Text {
+            return Ok(Text {
                 kept: Kept::Within(Word::of(&bytes)),
-            };
+            });
         }
-        Text {
-            kept: Kept::Apart(bytes),
-        }
+        Text::apart(alloc, bytes)
     }
 
     /// The bytes, first to last.

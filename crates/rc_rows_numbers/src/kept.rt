@@ -22,13 +22,13 @@ fn texts_and_lists(rt: HostRuntime) -> Result<(), Fail> {
         let text = Text::from(rt.alloc(), &bytes)?;
         assert_eq!(rt; text.bytes(), bytes.as_slice(), "{count}");
         for other in lengths {
-            let other_text = Text::from_vec(self::bytes(rt.alloc(), other)?);
+            let other_text = Text::from_vec(rt.alloc(), self::bytes(rt.alloc(), other)?)?;
             assert_eq!(rt; text == other_text, count == other, "{count} {other}");
         }
         if let Some(last) = bytes.last_mut() {
             *last = 255;
         }
-        let other = Text::from_vec(bytes);
+        let other = Text::from_vec(rt.alloc(), bytes)?;
         assert_eq!(rt; text == other, count == 0, "{count}");
     }
     assert!(rt; Text::new(rt.alloc()) == Text::from(rt.alloc(), b"")?);
