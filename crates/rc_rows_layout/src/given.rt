@@ -133,6 +133,24 @@ fn technology(alloc: Global, process: Process) -> anyhow::Result<Tech> {
     Ok(tech)
 }
 
+/// The technology of two LEF files.
+pub fn technology_of(alloc: Global, first: &str, second: &str) -> anyhow::Result<Tech> {
+    if first.len() > MOST || second.len() > MOST {
+        bail!("the technology is too long");
+    }
+    let mut reader = TechReader::new(alloc);
+    let read = match reader.file(first.as_bytes()) {
+        Ok(()) => reader.file(second.as_bytes()),
+        Err(fault) => Err(fault),
+    };
+    let tech = reader.finish();
+    if read.is_err() {
+        discard(tech);
+        bail!("the technology is refused");
+    }
+    Ok(tech)
+}
+
 /// A text of many lines from one line, where `^` stands for a line's end.
 fn lines(alloc: Global, row: &str) -> Result<Vec<u8>, NoMemory> {
     let mut text = Vec::from_slice(alloc, row.as_bytes())?;
@@ -159,7 +177,7 @@ pub fn design(alloc: Global, row: &str) -> anyhow::Result<RawDesign>
 }
 
 /// What a design links to over a technology.
-fn link_over(alloc: Global, tech: Tech, text: &str) -> anyhow::Result<Outcome> {
+pub fn link_over(alloc: Global, tech: Tech, text: &str) -> anyhow::Result<Outcome> {
     match design(alloc, text) {
         Ok(design) => Ok(Outcome::of(link(alloc, tech, design))),
         Err(error) => {

@@ -69,18 +69,56 @@ END RULES ;
 /// The greatest text.
 const MOST: usize = 1 << 20;
 
+/// The three files of a row.
+#[derive(Clone, Copy, Debug)]
+pub struct Files<'a> {
+    pub tech: &'a str,
+    pub rules: &'a str,
+    pub design: &'a str,
+}
+
+impl<'a> Files<'a> {
+    /// The files in a row's texts: all three, or a design for the technology and the rules of most rows.
+    pub fn of(texts: &'a str) -> Files<'a> {
+        match texts.split_once('~') {
+            Some((tech, others)) => Files::with_tech(tech, others),
+            None => Files {
+                tech: TECHNOLOGY,
+                rules: RULES,
+                design: texts,
+            },
+        }
+    }
+
+    /// The same, where the row has a technology of its own.
+    fn with_tech(tech: &'a str, others: &'a str) -> Files<'a> {
+        match others.split_once('~') {
+            Some((rules, design)) => Files {
+                tech,
+                rules,
+                design,
+            },
+            None => Files {
+                tech,
+                rules: RULES,
+                design: others,
+            },
+        }
+    }
+}
+
 /// Lets a value go.
 pub fn discard<T: Drop>(value: T) {
     drop(value);
 }
 
-/// The technology.
-pub fn technology(alloc: Global) -> anyhow::Result<Tech> {
-    if TECHNOLOGY.len() > MOST {
+/// The technology of a LEF file.
+pub fn technology(alloc: Global, text: &str) -> anyhow::Result<Tech> {
+    if text.len() > MOST {
         bail!("the technology is too long");
     }
     let mut reader = TechReader::new(alloc);
-    let read = reader.file(TECHNOLOGY.as_bytes());
+    let read = reader.file(text.as_bytes());
     let tech = reader.finish();
     if read.is_err() {
         discard(tech);
@@ -89,15 +127,15 @@ pub fn technology(alloc: Global) -> anyhow::Result<Tech> {
     Ok(tech)
 }
 
-/// The rules.
-pub fn rules(alloc: Global, tech: &Tech) -> anyhow::Result<Rules> {
-    if RULES.len() > MOST {
+/// The rules of a file.
+pub fn rules(alloc: Global, text: &str, tech: &Tech) -> anyhow::Result<Rules> {
+    if text.len() > MOST {
         bail!("the rules are too long");
     }
     if tech.m().is_none() {
         bail!("the technology has no units");
     }
-    match rc_rules::read(alloc, RULES.as_bytes(), tech) {
+    match rc_rules::read(alloc, text.as_bytes(), tech) {
         Ok(rules) => Ok(rules),
         Err(_) => bail!("the rules are refused"),
     }

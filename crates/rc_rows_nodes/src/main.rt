@@ -1,11 +1,12 @@
 //! Reads rows from the standard input, and prints the nodes, the tiles and the resistors of the nets of each design, and the tiles
-//! of its grounded nets. A row is how many nodes a net may have, and a DEF text, in which `^` stands for a line's end.
+//! of its grounded nets. A row is how many nodes a net may have, and a DEF text, in which `^` stands for a line's end; or, before the
+//! DEF text, a LEF and a rule text of the row's own, each with `~` behind it.
 #![tactic(auto)]
 
 mod given;
 mod shown;
 
-use given::{Outcome, design, discard, link_all, rules, technology};
+use given::{Files, Outcome, design, discard, link_all, rules, technology};
 use rc_lef::Tech;
 use rc_rules::Rules;
 use shown::show;
@@ -50,11 +51,11 @@ fn with_technology<R: Print + AllocGlobal>(
     rt: &R,
     room: u32,
     tech: Tech,
-    text: &str,
+    files: Files,
 ) -> anyhow::Result<()> {
-    match rules(rt.alloc(), &tech) {
+    match rules(rt.alloc(), files.rules, &tech) {
         Ok(rules) => {
-            let told = with_rules(rt, room, tech, &rules, text);
+            let told = with_rules(rt, room, tech, &rules, files.design);
             discard(rules);
             told
         }
@@ -67,11 +68,12 @@ fn with_technology<R: Print + AllocGlobal>(
 
 /// Reads a row and prints what its nets have.
 fn answer<R: Print + AllocGlobal>(rt: &R, row: &str) -> anyhow::Result<()> {
-    let Some((room, text)) = row.split_once(' ') else {
+    let Some((room, texts)) = row.split_once(' ') else {
         return Ok(println!(rt; "no row")?);
     };
     let room: u32 = room.parse()?;
-    with_technology(rt, room, technology(rt.alloc())?, text)
+    let files = Files::of(texts);
+    with_technology(rt, room, technology(rt.alloc(), files.tech)?, files)
 }
 
 fn main(rt: HostRuntime) -> anyhow::Result<()> {
