@@ -13,10 +13,10 @@ use Rattle.rc_rules.specs.Raters.{KeepsRules}
 use Rattle.rc_tally.specs.declared.entry.Entry.{Entry}
 use Rattle.rc_tally.specs.Amounts.{IsAmount, repeated}
 use Rattle.rc_tally.specs.Tallies.{Sum, sums, sum_sound}
-use Rattle.rc_sweep.specs.Entering.{one, many, IsTally, HasRoom, Enters}
-use Rattle.rc_sweep.proofs.Sums.{sums_additive, sums_are_amounts, repeated_one}
-use Rattle.rc_sweep.proofs.Strips.{kept_worth, repeating_keeps}
-use Rattle.rc_sweep.proofs.Enters.{enters_both, room_first, room_second}
+use Rattle.rc_sums.specs.Entering.{one, many, IsTally, HasRoom, Enters}
+use Rattle.rc_sums.proofs.Sums.{sums_additive, sums_are_amounts, repeated_one}
+use Rattle.rc_sums.proofs.Strips.{kept_worth, repeating_keeps}
+use Rattle.rc_sums.proofs.Enters.{enters_both, room_first, room_second}
 use Rattle.rc_bars.specs.declared.bar.Bar.{Bar}
 use Rattle.rc_bars.specs.Adds.{parts_added, waiting_parts}
 use Rattle.rc_bars.specs.Cells.{ArePlaces}

@@ -9,9 +9,9 @@ use Rattle.rc_rules.specs.Raters.{KeepsRules}
 use Rattle.rc_tally.specs.declared.entry.Entry.{Entry}
 use Rattle.rc_tally.specs.Amounts.{IsAmount}
 use Rattle.rc_tally.specs.Tallies.{sums, sum_sound}
-use Rattle.rc_sweep.specs.Entering.{many, IsTally, HasRoom, Enters}
-use Rattle.rc_sweep.proofs.Sums.{sums_are_amounts, repeated_sound}
-use Rattle.rc_sweep.proofs.Enters.{enters_both, room_first, room_second}
+use Rattle.rc_sums.specs.Entering.{many, IsTally, HasRoom, Enters}
+use Rattle.rc_sums.proofs.Sums.{sums_are_amounts, repeated_sound}
+use Rattle.rc_sums.proofs.Enters.{enters_both, room_first, room_second}
 use Rattle.rc_bars.specs.declared.bar.Bar.{Bar}
 use Rattle.rc_bars.specs.Adds.{parts_added, waiting_parts}
 use Rattle.rc_bars.specs.Columns.{Layers}

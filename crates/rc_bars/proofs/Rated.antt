@@ -14,10 +14,10 @@ use Rattle.rc_tally.specs.Tallies.{sums, sum_sound}
 use Rattle.rc_column.specs.declared.face.Face.{Face as FoundFace}
 use Rattle.rc_column.specs.Found.{face_value}
 use Rattle.rc_rules.specs.Raters.{KeepsRules}
-use Rattle.rc_sweep.specs.Entering.{many}
-use Rattle.rc_sweep.proofs.Sums.{sums_are_amounts, repeated_sound}
-use Rattle.rc_sweep.proofs.Enters.{part_added}
-use Rattle.rc_sweep.proofs.Faces.{gap_back, worth_two}
+use Rattle.rc_sums.specs.Entering.{many}
+use Rattle.rc_sums.proofs.Sums.{sums_are_amounts, repeated_sound}
+use Rattle.rc_sums.proofs.Enters.{part_added}
+use Rattle.rc_sums.proofs.Faces.{gap_back, worth_two}
 use Rattle.rc_bars.specs.Columns.{Layers, rated}
 
 -- the rates of a face, by what the code looked up

@@ -14,8 +14,8 @@ use Rattle.rc_geom.proofs.Totals.{total_sound}
 use Rattle.rc_rules.specs.Raters.{KeepsRules}
 use Rattle.rc_tally.specs.Amounts.{IsAmount}
 use Rattle.rc_tally.specs.Tallies.{sums, sum_sound}
-use Rattle.rc_sweep.specs.Entering.{many}
-use Rattle.rc_sweep.proofs.Sums.{sums_are_amounts}
+use Rattle.rc_sums.specs.Entering.{many}
+use Rattle.rc_sums.proofs.Sums.{sums_are_amounts}
 use Rattle.rc_bars.specs.declared.bar.Bar.{Bar}
 use Rattle.rc_bars.specs.declared.moment.Kind.{Kind}
 use Rattle.rc_bars.specs.declared.moment.Kind.TheVariants.{Under as IsUnder, Off as IsOff, On as IsOn, Look as IsLook}

@@ -18,10 +18,10 @@ use Rattle.rc_geom.proofs.Totals.{total_none, total_suc, total_between_none, tot
 use Rattle.rc_geom.proofs.Cuts.{total_between_split}
 use Rattle.rc_tally.specs.Amounts.{repeated}
 use Rattle.rc_tally.specs.Tallies.{Sum, sums, sum_sound}
-use Rattle.rc_sweep.specs.Entering.{one, many}
-use Rattle.rc_sweep.specs.Worths.{column_added, columns_added}
-use Rattle.rc_sweep.proofs.Sums.{sums_additive, repeated_one}
-use Rattle.rc_sweep.proofs.Strips.{kept_worth, repeating_keeps, column_sound as sweep_sound}
+use Rattle.rc_sums.specs.Entering.{one, many}
+use Rattle.rc_sums.specs.Worths.{column_added, columns_added}
+use Rattle.rc_sums.proofs.Sums.{sums_additive, repeated_one}
+use Rattle.rc_sums.proofs.Strips.{kept_worth, repeating_keeps, column_sound as sweep_sound}
 use Rattle.rc_bars.specs.declared.bar.Bar.{Bar}
 use Rattle.rc_bars.specs.Bars.{StandFor, StandForColumns, IsOver}
 use Rattle.rc_bars.specs.Events.{Event, Precedes, ComesBefore, IsDue, AreEvents, AreAllEvents, row_of, kind_of, bar_of}

@@ -13,8 +13,8 @@ use Rattle.rc_geom.specs.Sums.{Adding, IsAdditive, total}
 use Rattle.rc_geom.proofs.Totals.{total_none, total_suc, total_same, total_nothing}
 use Rattle.rc_geom.proofs.Cuts.{total_plus}
 use Rattle.rc_tally.specs.Tallies.{Sum, sums, sum_sound}
-use Rattle.rc_sweep.specs.Entering.{many}
-use Rattle.rc_sweep.proofs.Sums.{sums_additive, repeated_sound}
+use Rattle.rc_sums.specs.Entering.{many}
+use Rattle.rc_sums.proofs.Sums.{sums_additive, repeated_sound}
 use Rattle.rc_bars.specs.declared.bar.Bar.{Bar}
 use Rattle.rc_bars.specs.Events.{Event, bar_of}
 use Rattle.rc_bars.specs.Events.Event.{Under, Off, On, Look}

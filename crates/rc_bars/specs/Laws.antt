@@ -8,8 +8,8 @@ use Rattle.rc_geom.specs.Parts.{worth_at}
 use Rattle.rc_geom.specs.Sums.{Adding, IsAdditive, total}
 use Rattle.rc_geom.specs.Laws.{AmountsAreSound}
 use Rattle.rc_tally.specs.Tallies.{sums}
-use Rattle.rc_sweep.specs.Entering.{one}
-use Rattle.rc_sweep.specs.Worths.{column_added, columns_added}
+use Rattle.rc_sums.specs.Entering.{one}
+use Rattle.rc_sums.specs.Worths.{column_added, columns_added}
 use Rattle.rc_bars.specs.declared.bar.Bar.{Bar}
 use Rattle.rc_bars.specs.Bars.{StandFor, StandForColumns, IsOver}
 use Rattle.rc_bars.specs.Events.{Event, bar_of, AreEvents, AreAllEvents}

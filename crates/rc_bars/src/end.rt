@@ -6,7 +6,7 @@ ghost use Rattle.rc_geom.specs.Sums.{extent};
 ghost use Rattle.rc_geom.specs.Parts.{worth_at};
 ghost use Rattle.rc_tally.specs.Tallies.{sums};
 ghost use Rattle.rc_column.specs.Found.{face_value};
-ghost use Rattle.rc_sweep.specs.Entering.{many, IsTally, HasRoom, Enters};
+ghost use Rattle.rc_sums.specs.Entering.{many, IsTally, HasRoom, Enters};
 ghost use Rattle.rc_bars.specs.Columns.{low_face as low_face_of, high_face as high_face_of, rated};
 ghost use Rattle.rc_bars.specs.Ends.{IsNearBar, gap_between};
 ghost use Rattle.rc_bars.specs.Masks.{layers_of};
@@ -16,7 +16,7 @@ use crate::mask::context;
 use rc_column::Face;
 use rc_fixed::NoMemory;
 use rc_rules::Rater;
-use rc_sweep::{enter_part, own_key, seen_key};
+use rc_sums::{enter_part, own_key, seen_key};
 use rc_tally::Tally;
 
 /// How thick a bar's run is, at most the cap.

@@ -8,7 +8,7 @@ ghost use Rattle.rc_bars.specs.Ends.{IsNearBar};
 ghost use Rattle.rc_bars.specs.Events.Event.{Look};
 ghost use Rattle.rc_bars.specs.Slots.{place, slot_width};
 ghost use Rattle.rc_bars.specs.Sweeps.{event_added};
-ghost use Rattle.rc_sweep.specs.Entering.{IsTally, HasRoom, Enters};
+ghost use Rattle.rc_sums.specs.Entering.{IsTally, HasRoom, Enters};
 
 use crate::bar::Bar;
 use crate::pair::{Rows, enter_pair};

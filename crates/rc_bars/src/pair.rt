@@ -6,7 +6,7 @@ ghost use Rattle.rc_bars.specs.Columns.{low_parts, high_parts};
 ghost use Rattle.rc_bars.specs.Ends.{IsNearBar};
 ghost use Rattle.rc_bars.specs.Masks.{layers_of};
 ghost use Rattle.rc_bars.specs.declared.bar.Bar.{Bar};
-ghost use Rattle.rc_sweep.specs.Entering.{IsTally, HasRoom, Enters};
+ghost use Rattle.rc_sums.specs.Entering.{IsTally, HasRoom, Enters};
 
 use crate::bar::Bar;
 use crate::end::{enter_face, high_face, low_face};

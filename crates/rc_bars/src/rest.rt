@@ -7,7 +7,7 @@ ghost use Rattle.rc_bars.specs.Cells.{state_at, AreCells, ArePlaces};
 ghost use Rattle.rc_bars.specs.Columns.{left};
 ghost use Rattle.rc_bars.specs.Ends.{IsNearBar};
 ghost use Rattle.rc_bars.specs.Sweeps.{left_added};
-ghost use Rattle.rc_sweep.specs.Entering.{IsTally, HasRoom, Enters};
+ghost use Rattle.rc_sums.specs.Entering.{IsTally, HasRoom, Enters};
 ghost use Rattle.rc_bars.specs.declared.bar.Bar.{Bar};
 
 use crate::bar::Bar;

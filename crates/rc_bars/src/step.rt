@@ -8,7 +8,7 @@ ghost use Rattle.rc_bars.specs.Events.Event.{Under, Off, On, Look};
 ghost use Rattle.rc_bars.specs.Moments.{event_of};
 ghost use Rattle.rc_bars.specs.Sweeps.{states_next, event_added};
 ghost use Rattle.rc_bars.specs.declared.bar.Bar.{Bar};
-ghost use Rattle.rc_sweep.specs.Entering.{IsTally, HasRoom, Enters};
+ghost use Rattle.rc_sums.specs.Entering.{IsTally, HasRoom, Enters};
 
 use crate::bar::Bar;
 use crate::cells::{copy, fill, turn_off, turn_on};

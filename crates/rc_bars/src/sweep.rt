@@ -10,7 +10,7 @@ ghost use Rattle.rc_bars.specs.Slots.{slots_added};
 ghost use Rattle.rc_bars.specs.Sweeps.{states_after};
 ghost use Rattle.rc_bars.specs.declared.bar.Bar.{Bar};
 ghost use Rattle.rc_bars.specs.declared.moment.Moment.{Moment};
-ghost use Rattle.rc_sweep.specs.Entering.{IsTally, HasRoom, Enters};
+ghost use Rattle.rc_sums.specs.Entering.{IsTally, HasRoom, Enters};
 
 use crate::bar::Bar;
 use crate::look::Span;

@@ -4,9 +4,9 @@ use Rattle.rc_geom.specs.declared.key.Key.{Key}
 use Rattle.rc_geom.specs.Parts.{worth_at, shared_key, foreign_metal}
 use Rattle.rc_column.specs.Found.{face_value}
 use Rattle.rc_tally.specs.Tallies.{sums}
-use Rattle.rc_sweep.specs.Entering.{many}
-use Rattle.rc_sweep.proofs.Enters.{part_added, enters_both, room_first, room_second, on_ok}
-use Rattle.rc_sweep.proofs.Faces.{part_sound}
+use Rattle.rc_sums.specs.Entering.{many}
+use Rattle.rc_sums.proofs.Enters.{part_added, enters_both, room_first, room_second, on_ok}
+use Rattle.rc_sums.proofs.Faces.{part_sound}
 use Rattle.rc_bars.specs.Columns.{rated}
 use Rattle.rc_bars.specs.Masks.{layers_of}
 use Rattle.rc_bars.proofs.Rated.{face_rate, rate_sound, rated_splits}

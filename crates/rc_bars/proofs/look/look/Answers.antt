@@ -5,8 +5,8 @@ use Rattle.std.proofs.lemmas.Nat.{mul-add-lt}
 use Rattle.rc_geom.specs.declared.key.Key.{Key}
 use Rattle.rc_geom.specs.Sums.{total}
 use Rattle.rc_tally.specs.Tallies.{sums, sum_sound}
-use Rattle.rc_sweep.proofs.Sums.{sums_are_amounts}
-use Rattle.rc_sweep.proofs.Enters.{enters_none, enters_same, room_same}
+use Rattle.rc_sums.proofs.Sums.{sums_are_amounts}
+use Rattle.rc_sums.proofs.Enters.{enters_none, enters_same, room_same}
 use Rattle.rc_bars.specs.declared.bar.Bar.{Bar}
 use Rattle.rc_bars.specs.Adds.{parts_added, waiting_parts}
 use Rattle.rc_bars.specs.Cells.{state_at}

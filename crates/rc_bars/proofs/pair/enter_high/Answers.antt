@@ -4,8 +4,8 @@ use Rattle.std.proofs.lemmas.Bool.{cond-true, cond-false}
 use Rattle.rc_geom.specs.Parts.{worth_at}
 use Rattle.rc_tally.specs.Tallies.{sums}
 use Rattle.rc_column.specs.Found.{face_value}
-use Rattle.rc_sweep.specs.Entering.{many}
-use Rattle.rc_sweep.proofs.Enters.{room_same, enters_same, enters_none, on_ok}
+use Rattle.rc_sums.specs.Entering.{many}
+use Rattle.rc_sums.proofs.Enters.{room_same, enters_same, enters_none, on_ok}
 use Rattle.rc_bars.specs.Adds.{parts_added}
 use Rattle.rc_bars.specs.Columns.{high_parts, high_face, rated}
 use Rattle.rc_bars.specs.Masks.{layers_of}

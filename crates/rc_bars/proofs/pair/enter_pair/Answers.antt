@@ -1,7 +1,7 @@
 use Rattle.std.proofs.Common.{Some}
 use Rattle.rc_tally.specs.Tallies.{sum_sound}
-use Rattle.rc_sweep.specs.Entering.{many}
-use Rattle.rc_sweep.proofs.Enters.{on_ok}
+use Rattle.rc_sums.specs.Entering.{many}
+use Rattle.rc_sums.proofs.Enters.{on_ok}
 use Rattle.rc_bars.specs.Adds.{waiting_parts}
 use Rattle.rc_bars.specs.Columns.{low_parts}
 use Rattle.rc_bars.specs.Masks.{layers_of}

@@ -3,8 +3,8 @@ use Rattle.rc_geom.specs.declared.key.Key.{Key}
 use Rattle.rc_geom.specs.Sums.{total}
 use Rattle.rc_geom.proofs.Totals.{total_none}
 use Rattle.rc_tally.specs.Tallies.{sums}
-use Rattle.rc_sweep.proofs.Enters.{enters_none, enters_same, room_same}
-use Rattle.rc_sweep.proofs.Loops.{room_in_total, enters_total}
+use Rattle.rc_sums.proofs.Enters.{enters_none, enters_same, room_same}
+use Rattle.rc_sums.proofs.Loops.{room_in_total, enters_total}
 use Rattle.rc_bars.specs.Adds.{parts_added}
 use Rattle.rc_bars.specs.Cells.{state_at}
 use Rattle.rc_bars.specs.Columns.{left}

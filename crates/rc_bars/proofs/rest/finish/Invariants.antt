@@ -1,6 +1,6 @@
 use Rattle.rc_geom.specs.Sums.{total}
 use Rattle.rc_tally.specs.Tallies.{sums}
-use Rattle.rc_sweep.specs.Entering.{Enters}
+use Rattle.rc_sums.specs.Entering.{Enters}
 use Rattle.rc_bars.specs.Adds.{parts_added}
 use Rattle.rc_bars.specs.Cells.{state_at}
 use Rattle.rc_bars.specs.Columns.{left}

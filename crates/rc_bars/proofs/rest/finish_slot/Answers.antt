@@ -7,8 +7,8 @@ use Rattle.rc_geom.specs.Context.{layer_count}
 use Rattle.rc_geom.specs.Sums.{total}
 use Rattle.rc_geom.proofs.Totals.{total_none}
 use Rattle.rc_tally.specs.Tallies.{sums}
-use Rattle.rc_sweep.proofs.Enters.{enters_none, enters_same, room_same}
-use Rattle.rc_sweep.proofs.Loops.{room_in_total, enters_total}
+use Rattle.rc_sums.proofs.Enters.{enters_none, enters_same, room_same}
+use Rattle.rc_sums.proofs.Loops.{room_in_total, enters_total}
 use Rattle.rc_bars.specs.declared.bar.Bar.{Bar}
 use Rattle.rc_bars.specs.Adds.{parts_added, waiting_parts}
 use Rattle.rc_bars.specs.Cells.{state_at}

@@ -1,5 +1,5 @@
 use Rattle.std.proofs.Common.{refl, ap, ◌∙◌}
-use Rattle.rc_sweep.proofs.Enters.{enters_none}
+use Rattle.rc_sums.proofs.Enters.{enters_none}
 use Rattle.rc_bars.specs.declared.moment.Kind.{Kind}
 use Rattle.rc_bars.specs.Cells.{state_at}
 use Rattle.rc_bars.specs.Events.{Event}

@@ -1,5 +1,5 @@
 use Rattle.std.proofs.Common.{◌≡◌, ◌<◌, ℕ, take}
-use Rattle.rc_sweep.specs.Entering.{Enters}
+use Rattle.rc_sums.specs.Entering.{Enters}
 use Rattle.rc_bars.specs.Cells.{state_at, AreCells}
 use Rattle.rc_bars.specs.Moments.{events_of, events_added}
 use Rattle.rc_bars.specs.Sweeps.{states_after}

@@ -1,6 +1,6 @@
 use Rattle.std.proofs.Common.{◌≡◌, true, length, refl, arith}
 use Rattle.rc_geom.specs.declared.key.Key.{Key}
-use Rattle.rc_sweep.proofs.Enters.{enters_both, room_first, room_second, on_ok}
+use Rattle.rc_sums.proofs.Enters.{enters_both, room_first, room_second, on_ok}
 use Rattle.rc_bars.specs.Cells.{state_at}
 use Rattle.rc_bars.specs.Moments.{events_of, events_added}
 use Rattle.rc_bars.specs.Slots.{slot_count, slots_added}

@@ -1,7 +1,7 @@
 use Rattle.rc_geom.specs.Plane.{plane_of}
-use Rattle.rc_sweep.proofs.Counted.{metal_has}
-use Rattle.rc_sweep.proofs.Strips.{rules_sound}
-use Rattle.rc_sweep.proofs.Windows.{empty_tally, window_room, window_sum}
+use Rattle.rc_sums.proofs.Counted.{metal_has}
+use Rattle.rc_sums.proofs.Strips.{rules_sound}
+use Rattle.rc_sums.proofs.Windows.{empty_tally, window_room, window_sum}
 use Rattle.rc_bars.proofs.window.sweep_bars.Goals as goal
 
 pub sweep_columns-requires-clause-room : goal.sweep_columns-requires-clause-room

@@ -3,9 +3,9 @@ use Rattle.rc_geom.specs.declared.key.Key.{Key}
 use Rattle.rc_geom.specs.Plane.{plane_of}
 use Rattle.rc_geom.specs.Sums.{first_line, end_line, first_place, end_place}
 use Rattle.rc_tally.specs.Tallies.{sums}
-use Rattle.rc_sweep.specs.Entering.{one}
-use Rattle.rc_sweep.specs.Worths.{columns_added}
-use Rattle.rc_sweep.proofs.Enters.{enters_same, room_same, on_ok}
+use Rattle.rc_sums.specs.Entering.{one}
+use Rattle.rc_sums.specs.Worths.{columns_added}
+use Rattle.rc_sums.proofs.Enters.{enters_same, room_same, on_ok}
 use Rattle.rc_bars.specs.declared.moment.Moment.{Moment}
 use Rattle.rc_bars.specs.Events.{AreAllEvents}
 use Rattle.rc_bars.specs.Moments.{events_of}
