@@ -1,21 +1,19 @@
 //! The bars of a rectangle's columns.
 
-ghost use Rattle.std.specs.Prelude.{◌≡◌, ◌≢◌, ◌<◌, ◌≤◌, ◌^◌, ◌≤ℤ◌, All, AllPairs, Contains, IfOk, length};
+ghost use Rattle.std.specs.Prelude.{◌≡◌, ◌≢◌, ◌<◌, ◌≤◌, ◌^◌, ◌≤ℤ◌, All, AllPairs, IfOk, length};
 ghost use Rattle.rc_geom.specs.Context.{layer_count};
 ghost use Rattle.rc_geom.specs.Plane.{plane_of, RanksDiffer, NetsApart};
 ghost use Rattle.rc_geom.specs.Rects.{IsNearRect};
 ghost use Rattle.rc_geom.specs.Sums.{first_line as first_line_of, end_line as end_line_of};
-ghost use Rattle.rc_geom.specs.declared.tile.Tile.{Tile};
 ghost use Rattle.rc_bars.specs.Bars.{StandForColumns};
 ghost use Rattle.rc_bars.specs.Ends.{IsNearBar};
 ghost use Rattle.rc_bars.specs.Listing.{HasTile};
 ghost use Rattle.rc_bars.specs.Places.{IsWithin};
-ghost use Rattle.rc_bars.specs.Strips.{HasShare, AreSorted};
+ghost use Rattle.rc_bars.specs.Strips.{AreSorted};
 
 use crate::bar::Bar;
-use crate::listing::{shares, sorted};
+use crate::listing::sorted;
 use crate::share::share_bars;
-use crate::strip::Share;
 use rc_column::{Mark, end_line, first_line};
 use rc_fixed::NoMemory;
 use rc_geom::{Rect, Tile};
@@ -42,35 +40,30 @@ fn end_of(axis: usize, area: &Rect) -> Mark
     }
 }
 
-/// The bars of a rectangle's columns, from the tiles in order and the nets on layers that have tiles.
+/// The bars of a rectangle's columns, from the tiles in order.
 fn area_bars(
     alloc: Global,
     tiles: &[Tile],
     sorted: &[Tile],
-    shares: &[Share],
     axis: usize,
     area: &Rect,
 ) -> Result<Vec<Bar>, NoMemory>
     requires ranks { RanksDiffer tiles.now }
     requires apart { NetsApart tiles.now }
     requires near { All (λ t. IsNearRect t.rect) tiles.now }
+    requires tile_layers { All (λ t. t.layer < layer_count) tiles.now }
     requires area { IsNearRect area.now }
     requires sorted { AreSorted axis tiles.now sorted.now }
-    requires once { AllPairs (λ a b. a ≢ b) shares.now }
-    requires layers { All (λ s. s.layer < layer_count) shares.now }
-    requires all { (t : Tile) → Contains tiles.now t → HasShare shares.now t.layer t.net }
     ensures stand { IfOk result (λ bars. StandForColumns (plane_of tiles.now) axis (first_line_of axis area.now) (end_line_of axis area.now) bars.items) }
     ensures within { IfOk result (λ bars. All (IsWithin (first_line_of axis area.now) (end_line_of axis area.now)) bars.items) }
     ensures once { IfOk result (λ bars. AllPairs (λ a b. a ≢ b) bars.items) }
     ensures near { IfOk result (λ bars. All IsNearBar bars.items) }
-    ensures layers { IfOk result (λ bars. All (λ b. b.layer < layer_count) bars.items) }
-    ensures from { IfOk result (λ bars. All (λ b. HasShare shares.now b.layer b.net) bars.items) }
+    ensures from { IfOk result (λ bars. All (λ b. HasTile tiles.now b.layer) bars.items) }
 {
     share_bars(
         alloc,
         tiles,
         sorted,
-        shares,
         first_of(axis, area),
         end_of(axis, area),
     )
@@ -114,6 +107,5 @@ pub fn bars_of(
     ensures few { IfOk result (λ bars. length bars.items ≤ 2 ^ 30) }
 {
     let sorted = sorted(alloc, axis, tiles)?;
-    let shares = shares(alloc, tiles)?;
-    few_bars(area_bars(alloc, tiles, &sorted, &shares, axis, area)?)
+    few_bars(area_bars(alloc, tiles, &sorted, axis, area)?)
 }

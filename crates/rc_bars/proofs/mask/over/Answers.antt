@@ -1,7 +1,9 @@
 use Rattle.std.proofs.Common.{arith}
-use Rattle.rc_bars.specs.Masks.{layers_of}
-use Rattle.rc_geom.proofs.Ranges.{find_fails}
+use Rattle.rc_bars.proofs.Masks.{lowest_is, none_above_is}
 use Rattle.rc_bars.proofs.mask.over.Goals as goal
 
-pub loop-above-preserved : goal.loop-above-preserved
-loop-above-preserved c = find_fails (layers_of c.args.mask) c.loop-above.above 32 _ (omega arith) c.loop-above.invariant (cc)
+pub returns-then-above-eq0 : goal.returns-then-above-eq0
+returns-then-above-eq0 c = none_above_is c.args.mask c.args.layer (let none = c.if-above-eq0.true in omega (arith, none))
+
+pub returns : goal.returns
+returns c = lowest_is c.args.mask c.args.layer (omega arith) (let some = c.if-above-eq0.false in omega (arith, some)) (omega arith)

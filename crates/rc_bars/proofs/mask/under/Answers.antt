@@ -1,11 +1,9 @@
-use Rattle.rc_bars.specs.Masks.{layers_of}
-use Rattle.rc_geom.proofs.Ranges.{last_passes, last_fails}
+use Rattle.std.proofs.Common.{arith}
+use Rattle.rc_bars.proofs.Masks.{highest_is, none_highest}
 use Rattle.rc_bars.proofs.mask.under.Goals as goal
-use Rattle.rc_bars.proofs.mask.under.Goals.{then-has, else-has}
 
-pub loop-below-preserved : goal.loop-below-preserved
-loop-below-preserved c =
-    elim c.if-has.branch [
-      | then-has w ↦ last_passes (layers_of c.args.mask) c.loop-below.below _ (cc) w.highest-is
-      | else-has w ↦ last_fails (layers_of c.args.mask) c.loop-below.below _ _ (cc) c.loop-below.invariant w.highest-is
-    ]
+pub returns-then-below-eq0 : goal.returns-then-below-eq0
+returns-then-below-eq0 c = none_highest c.args.mask c.below-below.result c.args.layer c.below-below.ensures.of (let none = c.if-below-eq0.true in omega (arith, none))
+
+pub returns : goal.returns
+returns c = highest_is c.args.mask c.below-below.result c.args.layer c.below-below.ensures.of c.below-below.ensures.none (let some = c.if-below-eq0.false in omega (arith, some)) (omega arith)
