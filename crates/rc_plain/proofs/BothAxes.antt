@@ -12,8 +12,8 @@ use Rattle.rc_tally.specs.declared.entry.Entry.{Entry}
 use Rattle.rc_tally.specs.Amounts.{IsAmount}
 use Rattle.rc_tally.specs.Tallies.{Sum, sums, sum_of, sum_at, entry_at, HasSums, CanMerge, Merges}
 use Rattle.rc_tally.proofs.Named.{merge_kept}
-use Rattle.rc_sweep.specs.WindowSums.{IsWindowSum}
-use Rattle.rc_sweep.proofs.Strips.{AllParts, columns_sound, columns_are_sum}
+use Rattle.rc_sums.specs.WindowSums.{IsWindowSum}
+use Rattle.rc_sums.proofs.Strips.{AllParts, columns_sound, columns_are_sum}
 use Rattle.rc_plain.specs.BothAxes.{AreSums}
 
 -- the value of an axis is sound

@@ -21,12 +21,12 @@ use Rattle.rc_tally.specs.Tallies.{Sum, sums, sum_sound}
 use Rattle.rc_rules.specs.Raters.{KeepsRules}
 use Rattle.rc_squares.specs.Sides.{line_at, place_at, side_of, face_on}
 use Rattle.rc_squares.proofs.Squares.{its_place}
-use Rattle.rc_sweep.specs.Entering.{one}
-use Rattle.rc_sweep.specs.Worths.{columns_added}
-use Rattle.rc_sweep.proofs.Sums.{sums_are_amounts}
-use Rattle.rc_sweep.proofs.Enters.{part_added}
-use Rattle.rc_sweep.proofs.Faces.{worth_two}
-use Rattle.rc_sweep.proofs.Strips.{AllParts, columns_are_sum}
+use Rattle.rc_sums.specs.Entering.{one}
+use Rattle.rc_sums.specs.Worths.{columns_added}
+use Rattle.rc_sums.proofs.Sums.{sums_are_amounts}
+use Rattle.rc_sums.proofs.Enters.{part_added}
+use Rattle.rc_sums.proofs.Faces.{worth_two}
+use Rattle.rc_sums.proofs.Strips.{AllParts, columns_are_sum}
 use Rattle.rc_plain.specs.Squares.{face_added, side_added, place_added, places_added, lines_added, layers_added}
 
 -- ---- a face

@@ -13,7 +13,7 @@ use Rattle.rc_geom.specs.Sums.{Adding, total, both_directions, extent, first_lin
 use Rattle.rc_geom.specs.Extraction.{parts_of}
 use Rattle.rc_tally.specs.Tallies.{Sum, sums}
 use Rattle.rc_squares.specs.Sides.{line_at, place_at}
-use Rattle.rc_sweep.specs.Entering.{one}
+use Rattle.rc_sums.specs.Entering.{one}
 
 -- a face over a square
 abbrev pub face_added : {V : Type 0} → Adding V → Plane → Rates V → ℕ → Pt → Face → Key → Sum V

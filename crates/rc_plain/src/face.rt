@@ -6,7 +6,7 @@ ghost use Rattle.rc_geom.specs.Rects.{IsNear};
 ghost use Rattle.rc_geom.specs.Plane.{plane_of};
 ghost use Rattle.rc_geom.specs.Rates.{rate_of as rate_at};
 ghost use Rattle.rc_squares.specs.Found.{face_value};
-ghost use Rattle.rc_sweep.specs.Entering.{IsTally, HasRoom, Enters};
+ghost use Rattle.rc_sums.specs.Entering.{IsTally, HasRoom, Enters};
 ghost use Rattle.rc_plain.specs.Squares.{face_added, side_added};
 
 use crate::keys::{node_key, seen_key};
@@ -14,7 +14,7 @@ use rc_fixed::NoMemory;
 use rc_geom::{Pt, Side, Tile};
 use rc_rules::{Rate, Rater};
 use rc_squares::{Face, context, face_at};
-use rc_sweep::enter_part;
+use rc_sums::enter_part;
 use rc_tally::Tally;
 
 /// The gap before the metal that a face sees.

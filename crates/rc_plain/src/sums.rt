@@ -6,8 +6,8 @@ ghost use Rattle.rc_geom.specs.Rects.{IsNearRect};
 ghost use Rattle.rc_geom.specs.Plane.{plane_of};
 ghost use Rattle.rc_geom.specs.Sums.{extent, first_line, end_line, first_place, end_place};
 ghost use Rattle.rc_geom.specs.Extraction.{value_in, count_in, key_value, key_count};
-ghost use Rattle.rc_sweep.specs.Entering.{IsTally, HasRoom, Enters};
-ghost use Rattle.rc_sweep.specs.WindowSums.{IsWindowSum};
+ghost use Rattle.rc_sums.specs.Entering.{IsTally, HasRoom, Enters};
+ghost use Rattle.rc_sums.specs.WindowSums.{IsWindowSum};
 ghost use Rattle.rc_plain.specs.BothAxes.{AreSums};
 ghost use Rattle.rc_plain.specs.Squares.{place_added, places_added, lines_added, layers_added};
 

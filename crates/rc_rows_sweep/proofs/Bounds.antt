@@ -20,7 +20,7 @@ use Rattle.rc_geom.specs.Extraction.{parts_of, face_of, sum_in, value_in, count_
 use Rattle.rc_geom.proofs.Totals.{total_none, total_suc, extent_is}
 use Rattle.rc_tally.specs.Numbers.{numbers_are_additive}
 use Rattle.rc_tally.specs.Amounts.{any_number}
-use Rattle.rc_sweep.proofs.Faces.{worth_two}
+use Rattle.rc_sums.proofs.Faces.{worth_two}
 use Rattle.rc_rows_sweep.specs.RowRates.{row_rates, table_rates, by_distance, is_first, alone_rate, over_first_rate, place_digit, gap_digit, digit_own, digit_share}
 use Rattle.rc_rows_sweep.specs.Scenes.{IsWindow, IsSmall}
 

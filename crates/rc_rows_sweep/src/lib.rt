@@ -5,7 +5,7 @@ mod rates;
 mod scene;
 
 pub use rates::RowRates;
-pub use scene::{Scene, alike, is_window, merged, plain, plain_both, swept};
+pub use scene::{Scene, alike, by_columns, is_window, merged, plain, plain_both, swept};
 
 #[cfg(test)]
 mod columns;

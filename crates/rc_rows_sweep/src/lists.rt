@@ -1,7 +1,7 @@
-//! Lists of tiles by a generator: the sweep against the plain program.
+//! Lists of tiles by a generator: the sweep of windows and the sum by columns against the plain program.
 
 use crate::rates::RowRates;
-use crate::scene::{Scene, is_window, merged, plain, plain_both, swept};
+use crate::scene::{Scene, by_columns, is_window, merged, plain, plain_both, swept};
 use rc_geom::{Rect, Tile};
 use std::alloc::Global;
 use std::process::Abort;
@@ -93,7 +93,8 @@ fn drawn_scene(alloc: Global, draws: &mut Draws, kind: &Kind<'_>) -> Result<Scen
 
 const DIGITS: RowRates = RowRates { by_digits: true };
 
-/// The sweep and the plain program have the same sums of an axis of a window, with at most two edits a tile.
+/// The sweep, the sum by columns and the plain program have the same sums of an axis of a window, with at most two edits a
+/// tile.
 fn compare<const A: usize>(
     rt: &impl Abort,
     alloc: Global,
@@ -103,12 +104,19 @@ fn compare<const A: usize>(
 ) -> Result<(), Fail> {
     assert!(rt; is_window(area), "{what}: {area:?}");
     let (swept, edits) = swept::<A>(alloc, scene.tiles(), &DIGITS, area)?;
+    let (columns, changes) = by_columns::<A>(alloc, scene.tiles(), &DIGITS, area)?;
     let plain = plain::<A>(alloc, scene.tiles(), &DIGITS, area)?;
     assert_eq!(rt;
         swept.entries(),
         plain.entries(),
         "{what}, axis {A} of {area:?}"
     );
+    assert_eq!(rt;
+        columns.entries(),
+        plain.entries(),
+        "{what}, by columns, axis {A} of {area:?}"
+    );
+    assert!(rt; changes <= 2 * scene.tiles().len() as u64, "{what}");
     assert!(rt; edits <= 2 * scene.tiles().len() as u64, "{what}");
     Ok(())
 }

@@ -130,8 +130,8 @@ pub fn alike(tiles: &[Tile], line: Mark, other: Mark) -> bool
     true
 }
 
-/// The sums of the faces of axis `A` whose squares lie in the window, as the sweep has them, and how often it changed its
-/// column.
+/// The sums of the faces of axis `A` whose squares lie in the window, as the sweep has them, and by how much it raised the
+/// count of edits.
 pub fn swept<const A: usize>(
     alloc: Global,
     tiles: &[Tile],
@@ -151,6 +151,21 @@ pub fn swept<const A: usize>(
     let tally = sweep_window::<A, RowRates, CountMeter>(
         alloc, tiles, &window, rates, pass, &mut edits,
     )?;
+    Ok((tally, edits.count()))
+}
+
+/// The same by one column that goes over the lines, and how often it changed its column.
+pub fn by_columns<const A: usize>(
+    alloc: Global,
+    tiles: &[Tile],
+    rates: &RowRates,
+    rect: &Rect,
+) -> Result<(Tally<u128>, u64), NoMemory>
+    requires tiles { IsScene tiles.now }
+    requires window { IsWindow rect.now }
+{
+    let mut edits = Edits::new();
+    let tally = rc_sums::sum_by_columns::<A, RowRates>(alloc, tiles, rect, rates, &mut edits)?;
     Ok((tally, edits.count()))
 }
 

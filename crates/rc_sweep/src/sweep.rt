@@ -6,11 +6,11 @@ ghost use Rattle.rc_geom.specs.Rects.{IsNearRect};
 ghost use Rattle.rc_geom.specs.Plane.{plane_of, RanksDiffer, NetsApart};
 ghost use Rattle.rc_geom.specs.Context.{layer_count};
 ghost use Rattle.rc_geom.specs.Extraction.{value_in, count_in};
-ghost use Rattle.rc_sweep.specs.WindowSums.{IsWindowSum};
+ghost use Rattle.rc_sums.specs.WindowSums.{IsWindowSum};
 
-use crate::active::sweep_lines;
 use crate::meter::Meter;
 use crate::window::Window;
+use rc_bars::sweep_tiles;
 use rc_column::Edits;
 use rc_fixed::NoMemory;
 use rc_geom::Tile;
@@ -26,7 +26,7 @@ use std::alloc::Global;
 ///
 /// # Errors
 ///
-/// `NoMemory` for want of memory.
+/// `NoMemory` for want of memory, and where there are more than 2^30 tiles or bars.
 pub fn sweep_window<const A: usize, R: Rater, M: Meter>(
     alloc: Global,
     tiles: &[Tile],
@@ -48,7 +48,5 @@ pub fn sweep_window<const A: usize, R: Rater, M: Meter>(
     ensures kept { edits.old ≤ edits.new }
 {
     let _spent = pass;
-    let mut tally = Tally::new(alloc);
-    sweep_lines::<A, R>(alloc, &mut tally, tiles, rater, &window.rect, edits)?;
-    Ok(tally)
+    sweep_tiles::<A, R>(alloc, tiles, &window.rect, rater)
 }

@@ -3,8 +3,8 @@ use Rattle.std.specs.Option.{option_and_then}
 use Rattle.rc_geom.specs.Parts.{shared_key, foreign_metal}
 use Rattle.rc_geom.specs.Plane.{plane_of}
 use Rattle.rc_squares.specs.Found.{face_value}
-use Rattle.rc_sweep.proofs.Enters.{part_added, enters_both, room_first, room_second, on_ok}
-use Rattle.rc_sweep.proofs.Faces.{part_sound}
+use Rattle.rc_sums.proofs.Enters.{part_added, enters_both, room_first, room_second, on_ok}
+use Rattle.rc_sums.proofs.Faces.{part_sound}
 use Rattle.rc_plain.specs.Squares.{face_added}
 use Rattle.rc_plain.proofs.Squares.{face_adds, rate_sound}
 use Rattle.rc_plain.proofs.face.enter_face.Goals as goal

@@ -2,7 +2,7 @@ use Rattle.std.proofs.Common.{◌≡◌, ℕ, Some, ap, sym, ◌∙◌}
 use Rattle.rc_geom.specs.Plane.{plane_of}
 use Rattle.rc_squares.specs.Found.{face_value}
 use Rattle.rc_squares.specs.Sides.{face_on}
-use Rattle.rc_sweep.proofs.Enters.{enters_same, room_same, on_ok}
+use Rattle.rc_sums.proofs.Enters.{enters_same, room_same, on_ok}
 use Rattle.rc_plain.specs.Squares.{face_added, side_added}
 use Rattle.rc_plain.proofs.Squares.{face_counts, side_of_face}
 use Rattle.rc_plain.proofs.face.enter_side.Goals as goal

@@ -2,10 +2,10 @@ use Rattle.std.proofs.Common.{◌≡◌, ℕ, true}
 use Rattle.rc_geom.specs.declared.key.Key.{Key}
 use Rattle.rc_geom.specs.Plane.{plane_of}
 use Rattle.rc_geom.specs.Sums.{extent, first_line, end_line}
-use Rattle.rc_sweep.proofs.Counted.{metal_has}
-use Rattle.rc_sweep.proofs.Enters.{enters_none}
-use Rattle.rc_sweep.proofs.Strips.{rules_sound}
-use Rattle.rc_sweep.proofs.Loops.{room_in_total, enters_total}
+use Rattle.rc_sums.proofs.Counted.{metal_has}
+use Rattle.rc_sums.proofs.Enters.{enters_none}
+use Rattle.rc_sums.proofs.Strips.{rules_sound}
+use Rattle.rc_sums.proofs.Loops.{room_in_total, enters_total}
 use Rattle.rc_plain.specs.Squares.{lines_added, layers_added}
 use Rattle.rc_plain.proofs.Squares.{lines_sound, no_layers}
 use Rattle.rc_plain.proofs.sums.enter_axis.Goals as goal

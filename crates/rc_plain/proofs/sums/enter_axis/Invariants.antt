@@ -1,5 +1,5 @@
 use Rattle.rc_geom.specs.Plane.{plane_of}
-use Rattle.rc_sweep.specs.Entering.{Enters}
+use Rattle.rc_sums.specs.Entering.{Enters}
 use Rattle.rc_plain.specs.Squares.{layers_added}
 use Rattle.rc_plain.proofs.sums.enter_axis.Given as goal
 

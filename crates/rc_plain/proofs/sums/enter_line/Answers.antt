@@ -2,10 +2,10 @@ use Rattle.std.proofs.Common.{◌≡◌, ◌<◌, ◌+ℤ◌, ℕ, pos, true, su
 use Rattle.rc_geom.specs.declared.key.Key.{Key}
 use Rattle.rc_geom.specs.Plane.{plane_of}
 use Rattle.rc_geom.specs.Sums.{extent, first_line, first_place, end_place}
-use Rattle.rc_sweep.proofs.Counted.{metal_has}
-use Rattle.rc_sweep.proofs.Enters.{enters_none}
-use Rattle.rc_sweep.proofs.Strips.{rules_sound}
-use Rattle.rc_sweep.proofs.Loops.{room_in_total, enters_total}
+use Rattle.rc_sums.proofs.Counted.{metal_has}
+use Rattle.rc_sums.proofs.Enters.{enters_none}
+use Rattle.rc_sums.proofs.Strips.{rules_sound}
+use Rattle.rc_sums.proofs.Loops.{room_in_total, enters_total}
 use Rattle.rc_plain.specs.Squares.{place_added, places_added}
 use Rattle.rc_plain.proofs.Squares.{place_sound, no_places}
 use Rattle.rc_plain.proofs.sums.enter_line.Goals as goal

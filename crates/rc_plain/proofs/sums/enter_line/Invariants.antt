@@ -1,7 +1,7 @@
 use Rattle.std.proofs.Common.{◌+ℤ◌, pos}
 use Rattle.rc_geom.specs.Plane.{plane_of}
 use Rattle.rc_geom.specs.Sums.{first_line, first_place}
-use Rattle.rc_sweep.specs.Entering.{Enters}
+use Rattle.rc_sums.specs.Entering.{Enters}
 use Rattle.rc_plain.specs.Squares.{places_added}
 use Rattle.rc_plain.proofs.sums.enter_line.Given as goal
 

@@ -5,9 +5,9 @@ use Rattle.rc_geom.specs.declared.rect.Pt.{Pt}
 use Rattle.rc_geom.specs.Plane.{plane_of}
 use Rattle.rc_geom.specs.Sums.{first_line, first_place}
 use Rattle.rc_squares.specs.Sides.{side_of}
-use Rattle.rc_sweep.proofs.Counted.{metal_has}
-use Rattle.rc_sweep.proofs.Enters.{enters_none, enters_both, room_first, room_second, on_ok}
-use Rattle.rc_sweep.proofs.Strips.{rules_sound}
+use Rattle.rc_sums.proofs.Counted.{metal_has}
+use Rattle.rc_sums.proofs.Enters.{enters_none, enters_both, room_first, room_second, on_ok}
+use Rattle.rc_sums.proofs.Strips.{rules_sound}
 use Rattle.rc_plain.specs.Squares.{side_added, place_added}
 use Rattle.rc_plain.proofs.Squares.{place_is, place_bare, side_sound}
 use Rattle.rc_plain.proofs.sums.enter_square.Goals as goal

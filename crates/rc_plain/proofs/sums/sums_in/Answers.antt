@@ -1,9 +1,9 @@
 use Rattle.std.proofs.Common.{sym}
 use Rattle.rc_geom.specs.Plane.{plane_of}
-use Rattle.rc_sweep.proofs.Counted.{metal_has}
-use Rattle.rc_sweep.proofs.Enters.{enters_same, room_same}
-use Rattle.rc_sweep.proofs.Strips.{rules_sound}
-use Rattle.rc_sweep.proofs.Windows.{window_added, empty_tally, window_room, window_sum}
+use Rattle.rc_sums.proofs.Counted.{metal_has}
+use Rattle.rc_sums.proofs.Enters.{enters_same, room_same}
+use Rattle.rc_sums.proofs.Strips.{rules_sound}
+use Rattle.rc_sums.proofs.Windows.{window_added, empty_tally, window_room, window_sum}
 use Rattle.rc_plain.specs.Squares.{layers_added}
 use Rattle.rc_plain.proofs.Squares.{layers_are_columns}
 use Rattle.rc_plain.proofs.sums.sums_in.Goals as goal

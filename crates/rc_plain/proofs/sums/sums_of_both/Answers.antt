@@ -2,8 +2,8 @@ use Rattle.std.proofs.Common.{ℕ, arith}
 use Rattle.rc_geom.specs.declared.key.Key.{Key}
 use Rattle.rc_geom.specs.Plane.{plane_of}
 use Rattle.rc_geom.specs.Extraction.{value_in}
-use Rattle.rc_sweep.proofs.Counted.{metal_has}
-use Rattle.rc_sweep.proofs.Strips.{rules_sound}
+use Rattle.rc_sums.proofs.Counted.{metal_has}
+use Rattle.rc_sums.proofs.Strips.{rules_sound}
 use Rattle.rc_plain.proofs.BothAxes.{value_sound, can_merge, merged, when_ok}
 use Rattle.rc_plain.proofs.sums.sums_of_both.Goals as goal
 

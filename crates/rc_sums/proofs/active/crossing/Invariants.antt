@@ -1,0 +1,7 @@
+use Rattle.std.proofs.Common.{◌≡◌, take}
+use Rattle.std.specs.Prelude.{filter}
+use Rattle.rc_column.specs.Runs.{crosses_line}
+use Rattle.rc_sums.proofs.active.crossing.Given as goal
+
+abbrev pub invariant-loop-tile : goal.invariant-loop-tile
+invariant-loop-tile l = l.found ≡ filter (crosses_line l.line.axis l.line.at) (take l.tile-index l.tiles)
