@@ -1,6 +1,6 @@
 -- Sums of tiles within the limits.
-use Rattle.std.proofs.Common.{◌≡◌, ◌<◌, ◌≤◌, ◌+◌, ◌*◌, ◌^◌, ◌<ℤ◌, ◌-ℤ◌, ℕ, zero, suc, pos, Bool, true, List, length, subst, sym, arith}
-use Rattle.std.specs.Prelude.{nat_le, nat_lt, All, Option, is_some}
+use Rattle.std.proofs.Common.{◌<◌, ◌≤◌, ◌+◌, ◌*◌, ◌^◌, ℕ, zero, suc, List, length, arith}
+use Rattle.std.specs.Prelude.{nat_le, All, Option}
 use Rattle.std.proofs.lemmas.Bool.{lt-ltb, le-leb}
 use Rattle.std.proofs.lemmas.Int.{ints}
 use Rattle.std.proofs.lemmas.Nat.{mul-le}
@@ -9,7 +9,7 @@ use Rattle.std.proofs.lemmas.List.Sums.{sum_by-le}
 use Rattle.rc_geom.specs.declared.key.Key.{Key}
 use Rattle.rc_geom.specs.declared.tile.Tile.{Tile}
 use Rattle.rc_geom.specs.Rects.{IsNearRect}
-use Rattle.rc_geom.specs.Plane.{Plane, plane_of}
+use Rattle.rc_geom.specs.Plane.{plane_of}
 use Rattle.rc_geom.specs.Rates.{Rates}
 use Rattle.rc_geom.specs.Sums.{numbers, extent, first_line, end_line}
 use Rattle.rc_geom.specs.Extraction.{count_in, value_in, key_value}
@@ -24,7 +24,7 @@ use Rattle.rc_rules.specs.LookUp.{rates}
 use Rattle.rc_rules.specs.Kept.{rules_are_kept, rates_are_small}
 use Rattle.rc_sweep.specs.declared.window.Window.{Window}
 use Rattle.rc_sweep.proofs.Counted.{metal_has}
-use Rattle.rc_windows.specs.Sweeps.{CanSweepBoth, AreSweepable}
+use Rattle.rc_windows.specs.Sweeps.{AreSweepable}
 use Rattle.rc_windows.specs.Indexes.{most_places}
 use Rattle.rc_windows.specs.Laws.{LimitsSuffice}
 

@@ -1,6 +1,6 @@
 -- Places in rising lists, and the tiles that enter there.
 use Rattle.std.proofs.Common.{◌≡◌, ◌<◌, ◌≤◌, ◌+◌, ◌^◌, ⊎_elim, ℕ, zero, suc, Bool, true, false, cond, List, [], ◌∷◌, ◌++◌, append_assoc, length, get_or, take, map, eqb, refl, ap, sym, subst, ◌∙◌, arith}
-use Rattle.std.specs.Prelude.{filter, All, Contains, fold, Some, slice_get, Ok, Err}
+use Rattle.std.specs.Prelude.{filter, All, fold, Some, slice_get, Ok, Err}
 use Rattle.std.specs.Ordering.{nat_cmp}
 use Rattle.std.proofs.lemmas.List.Sorted.{searched}
 use Rattle.std.specs.List.{range_with_len, flat_map}

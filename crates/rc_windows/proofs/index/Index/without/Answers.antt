@@ -1,4 +1,4 @@
-use Rattle.std.proofs.Common.{◌≤◌, ◌+◌, refl, arith}
+use Rattle.std.proofs.Common.{refl, arith}
 use Rattle.rc_windows.proofs.Listed.{without_more}
 use Rattle.rc_windows.proofs.index.Index.without.Goals as goal
 
