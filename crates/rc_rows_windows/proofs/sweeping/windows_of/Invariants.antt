@@ -1,4 +1,4 @@
-use Rattle.std.proofs.Common.{◌≡◌, ◌≤◌, length}
+use Rattle.std.proofs.Common.{◌≡◌, length}
 use Rattle.std.specs.Prelude.{All}
 use Rattle.rc_geom.specs.Rects.{IsNearRect}
 use Rattle.rc_sweep.specs.declared.window.Window.{Window}
