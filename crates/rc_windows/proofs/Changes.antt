@@ -1,8 +1,7 @@
 -- What the changed lists of windows hold, and what can be swept of them.
-use Rattle.std.proofs.Common.{◌≡◌, ◌≢◌, ◌<◌, ◌+◌, ⊎_elim, ℕ, Bool, true, false, cond, not, List, [], ◌∷◌, ◌++◌, eqb, refl, ap, sym, ◌∙◌, arith}
-use Rattle.std.specs.Prelude.{filter, All, AllPairs}
+use Rattle.std.proofs.Common.{◌≡◌, ◌≢◌, ◌<◌, ◌+◌, ℕ, Bool, true, false, cond, not, List, [], ◌∷◌, ◌++◌, eqb, refl, ap, sym, ◌∙◌, arith}
+use Rattle.std.specs.Prelude.{filter}
 use Rattle.std.specs.List.{sum_by}
-use Rattle.std.proofs.lemmas.Bool.{cases_Bool}
 use Rattle.std.proofs.lemmas.List.Elements.{All-filter, filter-append}
 use Rattle.std.proofs.lemmas.List.Kept.{AllPairs-filter}
 use Rattle.std.proofs.lemmas.List.Sums.{sum_by-cons, sum_by-append}
@@ -12,8 +11,7 @@ use Rattle.rc_geom.specs.Plane.{Overlaps}
 use Rattle.rc_geom.specs.Context.{layer_count}
 use Rattle.rc_windows.specs.declared.frame.Frame.{Frame}
 use Rattle.rc_windows.specs.Frames.{meets}
-use Rattle.rc_windows.specs.Indexes.{near_tiles, others_of, changed_list}
-use Rattle.rc_windows.specs.Sweeps.{AreSweepable}
+use Rattle.rc_windows.specs.Indexes.{near_tiles, others_of}
 use Rattle.rc_windows.specs.Laws.{AreAlike, ChangesKeepIndexes, NearTilesAreSweepable}
 
 abbrev where_kept : (Tile → Bool) → (Tile → ℕ) → Tile → ℕ

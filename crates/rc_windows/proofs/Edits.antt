@@ -11,7 +11,6 @@ use Rattle.rc_geom.specs.declared.tile.Tile.{Tile}
 use Rattle.rc_geom.specs.declared.key.Key.{Key}
 use Rattle.rc_geom.specs.Rects.{covers, grow}
 use Rattle.rc_geom.specs.Plane.{Metal, claims, owner, plane_of}
-use Rattle.rc_geom.specs.Line.{square_of}
 use Rattle.rc_geom.specs.Faces.{is_net}
 use Rattle.rc_geom.specs.Parts.{worth_at}
 use Rattle.rc_geom.specs.Rates.{Rates}

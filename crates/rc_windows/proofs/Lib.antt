@@ -3,8 +3,10 @@ pub mod Rows
 pub mod Meetings
 pub mod Numbers
 pub mod Lists
+pub mod Listed
 pub mod Puts
 pub mod Sweeps
 pub mod Partition
 pub mod Edits
-mod Changes
+pub mod Changes
+pub mod Limits

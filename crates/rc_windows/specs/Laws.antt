@@ -1,21 +1,22 @@
 -- What holds of grids, windows and their sums. Each law is the contract of a function of src/laws.rt.
-use Rattle.std.specs.Prelude.{◌≡◌, ◌<◌, ◌++◌, ℕ, ℤ, Bool, true, List, All, Any, Contains}
+use Rattle.std.specs.Prelude.{◌≡◌, ◌<◌, ◌≤◌, ◌^◌, ◌++◌, ℕ, ℤ, Bool, true, nat_lt, List, All, Any, Contains, length}
 use Rattle.std.specs.List.{sum_by}
 use Rattle.rc_geom.specs.declared.rect.Pt.{Pt}
 use Rattle.rc_geom.specs.declared.rect.Rect.{Rect}
 use Rattle.rc_geom.specs.declared.tile.Tile.{Tile}
 use Rattle.rc_geom.specs.declared.key.Key.{Key}
-use Rattle.rc_geom.specs.Rects.{covers}
+use Rattle.rc_geom.specs.Rects.{covers, IsNearRect}
 use Rattle.rc_geom.specs.Plane.{plane_of}
 use Rattle.rc_geom.specs.Rates.{Rates}
-use Rattle.rc_geom.specs.Sums.{Adding, IsAdditive, total, square_sum}
+use Rattle.rc_geom.specs.Sums.{Adding, IsAdditive, numbers, total, square_sum}
 use Rattle.rc_geom.specs.Line.{square_of}
 use Rattle.rc_geom.specs.Extraction.{sum_in, parts_of}
 use Rattle.rc_geom.specs.Laws.{AllSound, AmountsAreSound, HaloReaches, SameFace, IsOfNet}
+use Rattle.rc_sweep.specs.declared.window.Window.{Window}
 use Rattle.rc_windows.specs.declared.frame.Frame.{Frame}
 use Rattle.rc_windows.specs.Frames.{window_count, window_rect, all_squares, touched}
-use Rattle.rc_windows.specs.Indexes.{near_tiles, others_of, changed_list}
-use Rattle.rc_windows.specs.Sweeps.{AreSweepable}
+use Rattle.rc_windows.specs.Indexes.{near_tiles, others_of, changed_list, most_places}
+use Rattle.rc_windows.specs.Sweeps.{AreSweepable, CanSweepBoth}
 
 -- the square lies in window k and in no other
 pub record IsOnlyWindow (frame : Frame) (p : Pt) (k : ℕ) : Type 0 where
@@ -95,3 +96,10 @@ ChangesKeepIndexes frame = (net k : ℕ) (before after tiles old : List Tile) �
 abbrev pub NearTilesAreSweepable : (ℕ → Type 0) → Frame → Type 0
 NearTilesAreSweepable has_rules frame = (tiles : List Tile) (k : ℕ) →
     AreSweepable has_rules tiles → AreSweepable has_rules (near_tiles frame tiles k)
+
+-- within the limits all sums fit: of at most so many tiles that can be swept, a key has fewer than 2^64 parts in a window near
+-- 0, and they add up to less than 2^128
+abbrev pub LimitsSuffice : (ℕ → Type 0) → Rates ℕ → Type 0
+LimitsSuffice has_rules rates = (window : Window) (tiles : List Tile) →
+    IsNearRect window.rect → length tiles ≤ most_places → AreSweepable has_rules tiles →
+    CanSweepBoth numbers (λ v. nat_lt v (2 ^ 128)) has_rules rates window tiles
