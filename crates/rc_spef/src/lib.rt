@@ -21,7 +21,7 @@ mod value;
 mod writer;
 
 pub use balance::is_balanced;
-pub use escaping::escape;
+pub use escaping::{escape, sub};
 pub use laws::{grammar_is_read, head_and_blocks, spef_reads_back};
 pub use reader::read;
 pub use same::same_net;
