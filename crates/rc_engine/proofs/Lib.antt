@@ -4,3 +4,16 @@ pub mod Sums
 pub mod Bringing
 pub mod Steps
 pub mod Totals
+pub mod Loops
+pub mod Engines
+pub mod WindowLists
+pub mod Hulls
+pub mod Refusals
+pub mod Measures
+pub mod Drawings
+pub mod Drawn
+pub mod Sweepable
+pub mod KeysOfTiles
+pub mod WindowSums
+pub mod Squares
+pub mod Limits

@@ -23,7 +23,7 @@ use Rattle.rc_engine.proofs.Keys.{own_keys_rise}
 
 -- ---- the definition, by keys
 
-abbrev key_cap : Wired → RuleFile → Key → Cap
+abbrev pub key_cap : Wired → RuleFile → Key → Cap
 key_cap wired rules key = cap_with key (value_of wired rules (turned key))
 
 -- what is made of those of the keys that pass
@@ -45,7 +45,7 @@ made_lists {X} {K} {C} lists keys passes make each (x ∷ xs) =
     ∙ ap (λ (cs : List C). map make (filter passes (keys x)) ++ cs) (made_lists lists keys passes make each xs)
     ∙ sym (ap (map make) (filter-append passes (keys x) (flat_map keys xs)) ∙ map-append make (filter passes (keys x)) (filter passes (flat_map keys xs)))
 
-caps_by_keys : (wired : Wired) (rules : RuleFile) (net : ℕ × Net) → net_caps wired rules net ≡ map (key_cap wired rules) (filter (is_present wired rules) (own_keys wired net))
+pub caps_by_keys : (wired : Wired) (rules : RuleFile) (net : ℕ × Net) → net_caps wired rules net ≡ map (key_cap wired rules) (filter (is_present wired rules) (own_keys wired net))
 unfolding net_caps own_keys
 caps_by_keys wired rules net =
     let grounds = made ground_key (is_present wired rules) (key_cap wired rules) (own_nodes net) in

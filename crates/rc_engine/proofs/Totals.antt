@@ -153,7 +153,7 @@ gathered_own n q es own order = folds n q es None own order
 
 -- ---- whose a key is
 
-ordered : (wired : Wired) (key : Key) → IsKey wired key → InOrder key
+pub ordered : (wired : Wired) (key : Key) → IsKey wired key → InOrder key
 ordered wired (Ground net node) h = tt
 ordered wired (Pair net node other onode) h = h.0
 
@@ -221,7 +221,7 @@ both_nodes wired a b differ h = by (cases_order a.0 b.0)
     by (inr (inr high)) = let k = subst (IsKey wired) (pair_high a b high) h in (k.2, k.1)
     by (inl same) = absurd (differ same)
 
-pair_is_key : (wired : Wired) (a b : Metal) → (a.0 ≡ b.0 → ⊥) → Contains (all_nodes wired) a → Contains (all_nodes wired) b → IsKey wired (pair_key a b)
+pub pair_is_key : (wired : Wired) (a b : Metal) → (a.0 ≡ b.0 → ⊥) → Contains (all_nodes wired) a → Contains (all_nodes wired) b → IsKey wired (pair_key a b)
 pair_is_key wired a b differ of_a of_b = by (cases_order a.0 b.0)
   where
     by : (a.0 ≡ b.0) ⊎ ((a.0 < b.0) ⊎ (b.0 < a.0)) → IsKey wired (pair_key a b)
@@ -240,7 +240,7 @@ key_of_net wired n net (Pair m c l d) there own key =
     (flat_map_has (λ a. map (own_pair a) (other_nodes wired n)) (own_nodes (n, net)) (m, c) (Pair m c l d) (node_of_net wired n net (m, c) there own.0 nodes.0)
     (map_has (own_pair (m, c)) (other_nodes wired n) (l, d) (node_of_another wired n (l, d) own.1 nodes.1)))
 
-net_of_key : (wired : Wired) (n : ℕ) (net : Net) (q : Key) → slice_get wired.nets n ≡ Some net → Contains (own_keys wired (n, net)) q → IsOwn n q × IsKey wired (turned q)
+pub net_of_key : (wired : Wired) (n : ℕ) (net : Net) (q : Key) → slice_get wired.nets n ≡ Some net → Contains (own_keys wired (n, net)) q → IsOwn n q × IsKey wired (turned q)
 unfolding own_keys
 net_of_key wired n net q there h =
     ⊎_elim
@@ -297,7 +297,7 @@ some_has es q x h = by (filter (is_of q) es) refl
         let tells = in_filter (is_of q) es y (subst (λ (l : Entries). Contains l y) (sym is) (at_head y ys y refl)) in
         (y, tells.0, one_key y.key q tells.1)
 
-seen_of : (n : ℕ) (es : Entries) (y : Entry ℕ) → Contains (owned n es) y → (e : Entry ℕ) × Contains es e × (own_of n e ≡ Some y)
+pub seen_of : (n : ℕ) (es : Entries) (y : Entry ℕ) → Contains (owned n es) y → (e : Entry ℕ) × Contains es e × (own_of n e ≡ Some y)
 unfolding owned
 seen_of n [] y h = absurd (none_in y h)
 seen_of n (e ∷ es) y h = by (λ there. let rest = seen_of n es y there in (rest.0, in_tail e es rest.0 rest.1, rest.2)) (own_of n e) refl
@@ -310,13 +310,13 @@ seen_of n (e ∷ es) y h = by (λ there. let rest = seen_of n es y there in (res
 
 -- ---- the sums of a net
 
-record Told (wired : Wired) (rules : RuleFile) (n : ℕ) (q : Key) (x : Entry ℕ) : Type 0 where
-  own : IsOwn n q
-  key : IsKey wired (turned q)
-  present : is_present wired rules q ≡ true
-  value : x.value ≡ value_of wired rules (turned q)
+pub record Told (wired : Wired) (rules : RuleFile) (n : ℕ) (q : Key) (x : Entry ℕ) : Type 0 where
+  pub own : IsOwn n q
+  pub key : IsKey wired (turned q)
+  pub present : is_present wired rules q ≡ true
+  pub value : x.value ≡ value_of wired rules (turned q)
 
-told : (wired : Wired) (rules : RuleFile) (n : ℕ) (es : Entries) (q : Key) (x : Entry ℕ) → AreTotals wired rules es → gathered numbers (owned n es) q ≡ Some x → Told wired rules n q x
+pub told : (wired : Wired) (rules : RuleFile) (n : ℕ) (es : Entries) (q : Key) (x : Entry ℕ) → AreTotals wired rules es → gathered numbers (owned n es) q ≡ Some x → Told wired rules n q x
 told wired rules n es q x totals h = record {
   own = own;
   key = key;

@@ -4,3 +4,9 @@ pub mod Extraction
 pub mod OwnEntries
 pub mod Brought
 pub mod Totals
+pub mod Windows
+pub mod Start
+pub mod Measured
+pub mod Engine
+pub mod WindowLaws
+pub mod Fits

@@ -1,17 +1,27 @@
 //! The engine: what a layout and rules come to as a SPEF value.
 #![tactic(auto)]
 
+mod accept;
 mod any;
+mod area;
 mod bring;
 mod cap;
 mod conn;
+mod engine;
+mod fits;
+pub mod laws;
+mod measured;
+mod missing;
 mod naming;
 mod net;
 mod resist;
+mod sweeping;
 
 pub use bring::brought;
 pub use cap::capacitances;
 pub use conn::{connections, die_pins};
+pub use engine::{Engine, StartFault};
+pub use fits::{entries_fit, totals_fit};
 pub use naming::Naming;
 pub use net::{net_of, value_of};
 pub use resist::resistances;
