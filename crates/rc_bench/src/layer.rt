@@ -1,11 +1,12 @@
 //! The layers that are timed. A further layer is a variant with its name, what it counts, and its turn.
 
 use crate::input::Input;
-use crate::linked;
+use crate::{extracted, linked};
 use rc_io::Gather;
 use rc_keys::Words;
 use rc_lef::{Tech, TechReader};
 use std::alloc::Global;
+use std::thread::Threads;
 
 /// A layer of the program.
 #[derive(Clone, Copy, Debug, PartialEq, Eq)]
@@ -26,6 +27,12 @@ pub enum Layer {
     Shorts,
     /// That of linking, the rule file, and the nodes, tiles and resistors of all nets.
     Nodes,
+    /// That of linking, the rule file, and the start of an engine with one worker.
+    Engine,
+    /// The same with four workers.
+    EngineOfFour,
+    /// That with one worker, the SPEF value, and its text in memory.
+    Text,
 }
 
 impl Layer {
@@ -40,6 +47,9 @@ impl Layer {
             "link" => Some(Layer::Link),
             "shorts" => Some(Layer::Shorts),
             "nodes" => Some(Layer::Nodes),
+            "engine" => Some(Layer::Engine),
+            "engine4" => Some(Layer::EngineOfFour),
+            "text" => Some(Layer::Text),
             _ => None,
         }
     }
@@ -51,9 +61,10 @@ impl Layer {
             Layer::Def => "nets",
             Layer::Lef => "definitions",
             Layer::Spef => "nets",
-            Layer::Rewrite => "bytes",
+            Layer::Rewrite | Layer::Text => "bytes",
             Layer::Link | Layer::Shorts => "items",
             Layer::Nodes => "tiles and resistors",
+            Layer::Engine | Layer::EngineOfFour => "passes",
         }
     }
 
@@ -65,16 +76,24 @@ impl Layer {
             Layer::Lef => defined(alloc, input),
             Layer::Spef => blocks(alloc, input),
             Layer::Rewrite => rewritten(alloc, input),
-            Layer::Link | Layer::Shorts | Layer::Nodes => 0,
+            Layer::Link
+            | Layer::Shorts
+            | Layer::Nodes
+            | Layer::Engine
+            | Layer::EngineOfFour
+            | Layer::Text => 0,
         }
     }
 
     /// Does its work once over all inputs, and answers its count.
-    pub fn turn(self, alloc: Global, inputs: &[Input]) -> u64 {
+    pub fn turn<R: Threads + Sync>(self, rt: &R, alloc: Global, inputs: &[Input]) -> u64 {
         match self {
             Layer::Link => linked::shapes(alloc, inputs),
             Layer::Shorts => linked::shapes_apart(alloc, inputs),
             Layer::Nodes => linked::parts(alloc, inputs),
+            Layer::Engine => extracted::passes(rt, alloc, inputs, 1),
+            Layer::EngineOfFour => extracted::passes(rt, alloc, inputs, 4),
+            Layer::Text => extracted::text_bytes(rt, alloc, inputs),
             _ => inputs.iter().fold(
                 0,
                 |count: u64, input| count.saturating_add(self.count(alloc, input)),

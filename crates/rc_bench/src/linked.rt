@@ -16,7 +16,7 @@ use rc_shorts::first_short;
 use std::alloc::Global;
 
 /// Lets a value go.
-fn discard<T: Drop>(value: T) {
+pub fn discard<T: Drop>(value: T) {
     drop(value);
 }
 
@@ -41,7 +41,7 @@ fn read_lefs(reader: &mut TechReader, inputs: &[Input]) -> bool
 }
 
 /// The technology of the LEF files.
-fn technology(alloc: Global, inputs: &[Input]) -> Option<Tech> {
+pub fn technology(alloc: Global, inputs: &[Input]) -> Option<Tech> {
     let mut reader = TechReader::new(alloc);
     let read = read_lefs(&mut reader, inputs);
     let tech = reader.finish();
@@ -79,7 +79,7 @@ fn design(alloc: Global, inputs: &[Input]) -> Option<RawDesign>
 }
 
 /// The layout of a design.
-fn layout_over(alloc: Global, tech: Tech, inputs: &[Input]) -> Option<Layout> {
+pub fn layout_over(alloc: Global, tech: Tech, inputs: &[Input]) -> Option<Layout> {
     match design(alloc, inputs) {
         Some(design) => link(alloc, tech, design).ok(),
         None => {
@@ -125,7 +125,7 @@ pub fn shapes_apart(alloc: Global, inputs: &[Input]) -> u64 {
 }
 
 /// The rules of the rule file.
-fn rules(alloc: Global, tech: &Tech, inputs: &[Input]) -> Option<Rules> {
+pub fn rules(alloc: Global, tech: &Tech, inputs: &[Input]) -> Option<Rules> {
     let Some(text) = text_of(inputs, Kind::Rules) else {
         return None;
     };

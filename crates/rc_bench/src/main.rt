@@ -1,6 +1,7 @@
 //! `rc_bench` times one layer of the program on files that are given, for who works on it.
 #![tactic(auto)]
 
+mod extracted;
 mod input;
 mod layer;
 mod linked;
@@ -10,11 +11,12 @@ use anyhow::Context;
 use input::Input;
 use layer::Layer;
 use std::rt::{Clock, Env, Files};
+use std::thread::Threads;
 use std::{env, io};
 
 const USAGE: &str = "usage: rc_bench LAYER TURNS FILE..
 Runs one layer of the program over the files, so many times, and prints what it counted in a turn and the seconds of the best one.
-Layers: tokens, def, lef, spef, rewrite, link, shorts, nodes
+Layers: tokens, def, lef, spef, rewrite, link, shorts, nodes, engine, engine4, text
 ";
 
 /// The words after the program's name.
@@ -27,7 +29,7 @@ fn words<R: Env + AllocGlobal>(rt: &R) -> io::Result<Vec<String>> {
 }
 
 /// Times the layer of that name, and prints what it counted and the seconds.
-fn measure<R: Print + Files + Clock + AllocGlobal>(
+fn measure<R: Print + Files + Clock + Threads + Sync + AllocGlobal>(
     rt: &R,
     layer: &str,
     turns: &str,

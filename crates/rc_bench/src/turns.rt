@@ -3,6 +3,7 @@
 use crate::input::Input;
 use crate::layer::Layer;
 use std::io;
+use std::thread::Threads;
 use std::time::{Clock, Duration, Instant};
 
 /// What a turn counted, and the time of the shortest.
@@ -13,7 +14,7 @@ pub struct Best {
 }
 
 /// Runs the layer so many times over the inputs, and at least once.
-pub fn fastest<R: Clock + AllocGlobal>(
+pub fn fastest<R: Clock + Threads + Sync + AllocGlobal>(
     rt: &R,
     layer: Layer,
     turns: u32,
@@ -30,9 +31,13 @@ pub fn fastest<R: Clock + AllocGlobal>(
 }
 
 /// One turn.
-fn turn<R: Clock + AllocGlobal>(rt: &R, layer: Layer, inputs: &[Input]) -> io::Result<Best> {
+fn turn<R: Clock + Threads + Sync + AllocGlobal>(
+    rt: &R,
+    layer: Layer,
+    inputs: &[Input],
+) -> io::Result<Best> {
     let start = Instant::now(rt)?;
-    let count = layer.turn(rt.alloc(), inputs);
+    let count = layer.turn(rt, rt.alloc(), inputs);
     let time = start.elapsed(rt)?;
     Ok(Best { count, time })
 }
