@@ -35,7 +35,7 @@ keeps-then before between after first second = record {
 pub same-texts : (before after : Shelf) → Keeps before after → after.texts ≡ before.texts
 same-texts before after keeps = fun_ext keeps.texts
 
-told-too : (before after : Shelf) → Keeps before after → IsTrue before.tells → IsTrue after.tells
+pub told-too : (before after : Shelf) → Keeps before after → IsTrue before.tells → IsTrue after.tells
 told-too before after keeps told = subst IsTrue (sym keeps.tells) told
 
 rose-before : (before between now : ℕ) → before ≤ between → Rose between now → Rose before now
@@ -43,7 +43,7 @@ rose-before before between now le rose = omega (arith, le, rose)
 
 -- ---- a file that isn't there
 
-by-test : {R : Type 0} (test : Bool) → (test ≡ true → R) → (test ≡ false → R) → R
+pub by-test : {R : Type 0} (test : Bool) → (test ≡ true → R) → (test ≡ false → R) → R
 by-test true held failed = held refl
 by-test false held failed = failed refl
 

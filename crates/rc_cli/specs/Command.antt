@@ -31,7 +31,7 @@ is_file_word (first ∷ rest) = not (first == 45)
 
 -- the number from 1 to most whose plain decimal a word is
 unfoldable pub number_up_to : ℕ → List ℕ → Option ℕ
-number_up_to most word = find (λ number. bytes_eq word (decimal number)) (range_with_len 1 most)
+number_up_to most word = find (λ number. bytes_eq (decimal number) word) (range_with_len 1 most)
 
 -- how many workers there may be, and how many LEF files
 abbrev pub most_workers : ℕ

@@ -1,6 +1,6 @@
 //! The words that are listed.
 
-ghost use Rattle.std.specs.Prelude.{◌≡◌, ◌≤◌, length, map, Option};
+ghost use Rattle.std.specs.Prelude.{◌≡◌, ◌≤◌, IfSome, length, map};
 ghost use Rattle.std.specs.List.{list_all};
 ghost use Rattle.std.specs.Option.{option_copied};
 ghost use Rattle.std.specs.String.{string_bytes};
@@ -63,7 +63,10 @@ fn is_file_word(word: &str) -> bool
 fn are_file_words(words: &[String]) -> bool
     ensures { result ≡ list_all is_file_word_of (map string_bytes words.now) }
 {
-    words.iter().all(|word| is_file_word(word.as_str()))
+    match words {
+        [] => true,
+        [first, others @ ..] => is_file_word(first.as_str()) && are_file_words(others),
+    }
 }
 
 /// The number from 1 to `most` whose plain decimal a word is. None comes exactly where there is no such number.
@@ -89,7 +92,7 @@ fn request_for<'a>(task: Task<'a>, workers: &str, files: &'a [String]) -> Option
     let [rules, def, lefs @ ..] = files else {
         return None;
     };
-    if !are_file_words(files) || lefs.is_empty() || lefs.len() > MOST_LEFS {
+    if lefs.is_empty() || lefs.len() > MOST_LEFS || !are_file_words(files) {
         return None;
     }
     Some(Request {

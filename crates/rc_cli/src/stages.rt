@@ -53,7 +53,7 @@ pub struct Placed {
 fn discard<T: Drop>(_value: T) {}
 
 /// Reads the LEF files, one after another. The second value is how many bytes the files after them may have.
-fn technology<F: Files>(
+fn read_technology<F: Files>(
     alloc: Global,
     files: &mut F,
     lefs: &[String],
@@ -79,7 +79,7 @@ fn technology<F: Files>(
 }
 
 /// Reads the LEF files, and the DEF file behind them.
-fn design<F: Files>(alloc: Global, files: &mut F, asked: &Request<'_>) -> Result<Drawn, Stop>
+fn read_design<F: Files>(alloc: Global, files: &mut F, asked: &Request<'_>) -> Result<Drawn, Stop>
     ensures keeps { Keeps (shelf (F.tells files.old) (F.text files.old) (F.faults files.old)) (shelf (F.tells files.new) (F.text files.new) (F.faults files.new)) }
     ensures done { IfOk result (λ drawn. IsTrue (F.tells files.old) → design_of (F.text files.old) asked.now.inputs ≡ Done drawn) }
     ensures form { IfOk result (λ drawn. IsRawDesign drawn.design) }
@@ -87,7 +87,7 @@ fn design<F: Files>(alloc: Global, files: &mut F, asked: &Request<'_>) -> Result
     ensures stopped { IfErr result (HasStopped (shelf (F.tells files.old) (F.text files.old) (F.faults files.old)) (shelf (F.tells files.new) (F.text files.new) (F.faults files.new))
         (file_words asked.now) (λ texts. design_of texts asked.now.inputs)) }
 {
-    let (tech, room) = match technology(alloc, files, asked.lefs()) {
+    let (tech, room) = match read_technology(alloc, files, asked.lefs()) {
         Ok(read) => read,
         Err(why) => return Err(why),
     };
@@ -120,7 +120,7 @@ fn require_units(alloc: Global, def: &str, drawn: &Drawn) -> Result<(), Stop>
 }
 
 /// Reads the LEF files, the DEF file, and the rule file behind them.
-fn ruled<F: Files>(alloc: Global, files: &mut F, asked: &Request<'_>) -> Result<Ruled, Stop>
+fn read_with_rules<F: Files>(alloc: Global, files: &mut F, asked: &Request<'_>) -> Result<Ruled, Stop>
     ensures keeps { Keeps (shelf (F.tells files.old) (F.text files.old) (F.faults files.old)) (shelf (F.tells files.new) (F.text files.new) (F.faults files.new)) }
     ensures done { IfOk result (λ ruled. IsTrue (F.tells files.old) → ruled_of (F.text files.old) asked.now.inputs ≡ Done ruled) }
     ensures form { IfOk result (λ ruled. IsRawDesign ruled.design) }
@@ -128,7 +128,7 @@ fn ruled<F: Files>(alloc: Global, files: &mut F, asked: &Request<'_>) -> Result<
     ensures stopped { IfErr result (HasStopped (shelf (F.tells files.old) (F.text files.old) (F.faults files.old)) (shelf (F.tells files.new) (F.text files.new) (F.faults files.new))
         (file_words asked.now) (λ texts. ruled_of texts asked.now.inputs)) }
 {
-    let drawn = match design(alloc, files, asked) {
+    let drawn = match read_design(alloc, files, asked) {
         Ok(drawn) => drawn,
         Err(why) => return Err(why),
     };
@@ -157,7 +157,7 @@ fn ruled<F: Files>(alloc: Global, files: &mut F, asked: &Request<'_>) -> Result<
 /// # Errors
 ///
 /// Why there is no layout: the first refusal, a file that failed, or want of memory.
-pub fn placed<F: Files>(alloc: Global, files: &mut F, asked: &Request<'_>) -> Result<Placed, Stop>
+pub fn place<F: Files>(alloc: Global, files: &mut F, asked: &Request<'_>) -> Result<Placed, Stop>
     ensures keeps { Keeps (shelf (F.tells files.old) (F.text files.old) (F.faults files.old)) (shelf (F.tells files.new) (F.text files.new) (F.faults files.new)) }
     ensures done { IfOk result (λ placed. IsTrue (F.tells files.old) → layout_of (F.text files.old) asked.now.inputs ≡ Done placed) }
     ensures left { IfOk result (λ placed. placed.room ≤ 2 ^ 30) }
@@ -169,7 +169,7 @@ pub fn placed<F: Files>(alloc: Global, files: &mut F, asked: &Request<'_>) -> Re
         design,
         rules,
         room,
-    } = match ruled(alloc, files, asked) {
+    } = match read_with_rules(alloc, files, asked) {
         Ok(ruled) => ruled,
         Err(why) => return Err(why),
     };

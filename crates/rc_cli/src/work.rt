@@ -11,7 +11,7 @@ ghost use Rattle.rc_cli.specs.Work.{Keeps, HasStopped};
 use crate::command::Request;
 use crate::extracting::extracted;
 use crate::reading::read_spef;
-use crate::stages::placed;
+use crate::stages::place;
 use crate::stop::Stop;
 use crate::verdict::{Verdict, verify};
 use rc_fixed::NoMemory;
@@ -88,7 +88,7 @@ fn compared(alloc: Global, spef: &Spef, file: &Spef) -> Result<Reply, NoMemory>
 }
 
 /// The reply of a task, from the extraction and the task's own file.
-fn reply<F: Files>(
+fn answer<F: Files>(
     alloc: Global,
     files: &mut F,
     asked: &Request<'_>,
@@ -139,7 +139,7 @@ pub fn work<R: Threads + Sync, F: Files, M: Meter, G: Gate>(
     ensures least { M.drawn meter.old ≤ M.drawn meter.new }
     ensures spent { IsTrue (F.tells files.old) → M.drawn meter.new ≤ M.drawn meter.old + passes (F.text files.old) asked.now.inputs }
 {
-    let placed = match placed(alloc, files, asked) {
+    let placed = match place(alloc, files, asked) {
         Ok(placed) => placed,
         Err(why) => return Err(why),
     };
@@ -148,5 +148,5 @@ pub fn work<R: Threads + Sync, F: Files, M: Meter, G: Gate>(
         Ok(spef) => spef,
         Err(why) => return Err(why),
     };
-    reply(alloc, files, asked, room, &spef)
+    answer(alloc, files, asked, room, &spef)
 }

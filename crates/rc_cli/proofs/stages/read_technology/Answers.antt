@@ -5,7 +5,7 @@ use Rattle.rc_lef.specs.Technology.{Technology}
 use Rattle.rc_cli.specs.Answers.{Shelf, shelf}
 use Rattle.rc_cli.proofs.Courses.{keeps-same, keeps-then}
 use Rattle.rc_cli.proofs.Progress.{lef-begins, lef-stops, lef-done}
-use Rattle.rc_cli.proofs.stages.technology.Goals as goal
+use Rattle.rc_cli.proofs.stages.read_technology.Goals as goal
 
 pub loop-lef-init : goal.loop-lef-init
 loop-lef-init g c =

@@ -5,7 +5,7 @@ use Rattle.std.specs.String.{string_bytes}
 use Rattle.rc_cli.specs.Outcome.{Done, technology}
 use Rattle.rc_cli.specs.Answers.{shelf}
 use Rattle.rc_cli.specs.Work.{Keeps}
-use Rattle.rc_cli.proofs.stages.technology.Given as goal
+use Rattle.rc_cli.proofs.stages.read_technology.Given as goal
 
 abbrev pub invariant-loop-lef : goal.invariant-loop-lef
 invariant-loop-lef g l =
