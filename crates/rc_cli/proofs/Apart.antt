@@ -1,8 +1,8 @@
 -- The first place where two lists disagree.
 use Rattle.std.proofs.Common.{◌≡◌, ◌≢◌, ℕ, zero, suc, ◌+◌, ◌<◌, ◌≤◌, min, Bool, true, false, List, [], ◌∷◌, length, map, Some, None, ap, sym, inl, inr, arith, refl}
-use Rattle.std.specs.Prelude.{◌↔◌, IfSome, IsTrue, option_map, slice_get}
+use Rattle.std.specs.Prelude.{◌↔◌, IfSome, IsTrue, slice_get}
 use Rattle.std.specs.Bool.{Decides}
-use Rattle.std.proofs.lemmas.Option.{slice_get_past, slice_get_within}
+use Rattle.std.proofs.lemmas.Option.{slice_get_past}
 use Rattle.std.proofs.Math.Nat.{eq-or-lt_of_le}
 use Rattle.std.proofs.lemmas.Bool.Decides.{leb_tells}
 use Rattle.rc_cli.specs.Verdict.{first_apart, IsFirstApart}
@@ -69,9 +69,9 @@ ended (x ∷ xs) (y ∷ ys) (suc place) end within = ended xs ys place (omega (a
 pub one_ended : {A : Type 0} (xs ys : List A) (place : ℕ) → place ≡ min (length xs) (length ys) → length xs ≢ length ys → slice_get xs place ≢ slice_get ys place
 one_ended xs ys place is other =
     elim (leb_tells (length xs) (length ys)) [
-      inl (test, short) ↦ (let strictly : length xs < length ys = elim (eq-or-lt_of_le short) [ inl same ↦ absurd (other same) | inr less ↦ less ] in
-        ended xs ys place (omega (arith, is, short)) (omega (arith, is, strictly)))
-    | inr (test, long) ↦ (λ same. ended ys xs place (omega (arith, is, long)) (omega (arith, is, long)) (sym same))
+      | inl (test, short) ↦ (let strictly : length xs < length ys = elim (eq-or-lt_of_le short) [ inl same ↦ absurd (other same) | inr less ↦ less ] in
+          ended xs ys place (omega (arith, is, short)) (omega (arith, is, strictly)))
+      | inr (test, long) ↦ (λ same. ended ys xs place (omega (arith, is, long)) (omega (arith, is, long)) (sym same))
     ]
 
 -- ---- a test at a place

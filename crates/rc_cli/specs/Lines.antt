@@ -1,5 +1,5 @@
 -- The lines on the standard error.
-use Rattle.std.specs.Prelude.{ℕ, Bool, false, not, ◌==◌, ◌&&◌, List, [], ◌∷◌, ◌++◌, Option, Some, None, codes, slice_get}
+use Rattle.std.specs.Prelude.{ℕ, Bool, false, not, ◌==◌, ◌&&◌, List, [], ◌∷◌, ◌++◌, Option, Some, None, codes, option_map, slice_get, unwrap_or}
 use Rattle.std.specs.Fmt.{decimal, signed_decimal}
 use Rattle.std.specs.List.{find, flat_map}
 use Rattle.std.specs.Option.{option_map_or}
@@ -44,14 +44,16 @@ is_layer cut number (kinds.Routing other) = not cut && (other == number)
 is_layer cut number (kinds.Cut other) = cut && (other == number)
 is_layer cut number kinds.Other = false
 
--- the name of a layer, by its kind and its number
-unfoldable pub layer_name : List Layer → Bool → ℕ → List ℕ
-layer_name layers cut number =
-    option_map_or (λ (layer : Layer). layer.name) (find (λ (layer : Layer). is_layer cut number layer.kind) layers) []
+-- the layer of a kind and a number, and its name
+unfoldable pub layer_at : List Layer → Bool → ℕ → Option Layer
+layer_at layers cut number = find (λ (layer : Layer). is_layer cut number layer.kind) layers
+
+abbrev pub layer_name : List Layer → Bool → ℕ → List ℕ
+layer_name layers cut number = option_map_or (λ (layer : Layer). layer.name) (layer_at layers cut number) []
 
 -- the name of a net; grounded nets have the numbers behind those of the others
-unfoldable pub net_name : Wired → ℕ → List ℕ
-net_name wired number = option_map_or (λ (net : Net). net.name) (slice_get (all_nets wired) number) []
+abbrev pub net_name : Wired → ℕ → List ℕ
+net_name wired number = unwrap_or (option_map (λ (net : Net). net.name) (slice_get (all_nets wired) number)) []
 
 -- the names of a layout, as they stand in its files
 abbrev pub names_of : Wired → Names

@@ -4,7 +4,7 @@ ghost use Rattle.std.specs.Prelude.{◌≡◌, ◌≤◌, IfSome, length, map};
 ghost use Rattle.std.specs.List.{list_all};
 ghost use Rattle.std.specs.Option.{option_copied};
 ghost use Rattle.std.specs.String.{string_bytes};
-ghost use Rattle.rc_cli.specs.Command.{is_file_word as is_file_word_of, number_up_to as number_up_to_of, inputs_of, request_with, request_for as request_for_of, extract_of, verify_of, request_of, spef_word, task_seen};
+ghost use Rattle.rc_cli.specs.Command.{is_file_word as is_file_word_of, number_up_to as number_up_to_of, request_for as request_for_of, extract_of, verify_of, request_of, spef_word, task_seen};
 
 use itoa::Buffer;
 use std::marker::Model;
@@ -70,7 +70,6 @@ fn are_file_words(words: &[String]) -> bool
 }
 
 /// The number from 1 to `most` whose plain decimal a word is. None comes exactly where there is no such number.
-#[tactic(auto, unfolding(crate::specs::Command::number_up_to))]
 fn number_up_to(most: u32, word: &str) -> Option<u32>
     requires { most ≤ 64 }
     ensures is { result ≡ number_up_to_of most word.now }

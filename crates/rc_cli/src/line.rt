@@ -1,11 +1,11 @@
 //! The lines on the standard error.
 
 ghost use Rattle.std.specs.Prelude.{◌≡◌, ◌≢◌, ◌⊎◌, [], ◌∷◌, ◌++◌, IfOk, OnOk};
-ghost use Rattle.std.specs.Fmt.{signed_decimal};
+ghost use Rattle.std.specs.Fmt.{decimal, signed_decimal};
 ghost use Rattle.std.specs.Option.{option_copied};
 ghost use Rattle.rc_io.specs.Causes.{Rose};
 ghost use Rattle.rc_io.specs.Bytes.{grown, GrewByPrefix};
-ghost use Rattle.rc_cli.specs.Lines.{is_layer as is_layer_of, layer_name as layer_name_of, net_name as net_name_of, names_in, refusal_code, refusal_words, spaced, refusal_line as refusal_line_of, read_fault_line as read_fault_line_of, usage_line, no_memory_line};
+ghost use Rattle.rc_cli.specs.Lines.{is_layer as is_layer_of, layer_at as layer_at_of, layer_name as layer_name_of, net_name as net_name_of, names_in, refusal_code, refusal_words, spaced, refusal_line as refusal_line_of, read_fault_line as read_fault_line_of, usage_line, no_memory_line};
 
 use itoa::{Buffer, Integer};
 use rc_fixed::{NoMemory, Text};
@@ -40,12 +40,19 @@ fn is_layer(layer: &Layer, cut: bool, number: u8) -> bool
     }
 }
 
+/// The layer of a kind and a number. None comes exactly where there is none.
+#[tactic(auto, unfolding(crate::specs::Lines::layer_at))]
+fn layer_at(layers: &[Layer], cut: bool, number: u8) -> Option<&Layer>
+    ensures { option_copied result ≡ layer_at_of layers.now cut number }
+{
+    layers.iter().find(|layer| is_layer(layer, cut, number))
+}
+
 /// The name of a layer, by its kind and its number. No bytes where there is none.
-#[tactic(auto, unfolding(crate::specs::Lines::layer_name))]
 fn layer_name(layers: &[Layer], cut: bool, number: u8) -> &[u8]
     ensures { result.now ≡ layer_name_of layers.now cut number }
 {
-    match layers.iter().find(|layer| is_layer(layer, cut, number)) {
+    match layer_at(layers, cut, number) {
         Some(layer) => layer.name.bytes(),
         None => &[],
     }
@@ -62,7 +69,6 @@ fn layer_called(layout: Option<&Layout>, cut: bool, number: u8) -> &[u8]
 }
 
 /// The name of a net. No bytes where there is none.
-#[tactic(auto, unfolding(crate::specs::Lines::net_name))]
 fn net_name(layout: &Layout, number: u32) -> &[u8]
     ensures { result.now ≡ net_name_of layout.now number }
 {
@@ -100,6 +106,23 @@ fn push_number<I: Integer>(line: &mut Vec<u8>, number: I) -> Result<(), NoMemory
     push_word(line, digits.format(number).as_bytes())
 }
 
+/// Appends one word.
+fn push_one(line: &mut Vec<u8>, word: &[u8]) -> Result<(), NoMemory>
+    ensures { OnOk result (line.new.items ≡ line.old.items ++ spaced (word.now ∷ [])) }
+{
+    push_word(line, word)?;
+    Ok(())
+}
+
+/// Appends a file and a line of it.
+fn push_place(line: &mut Vec<u8>, file: &[u8], number: u32) -> Result<(), NoMemory>
+    ensures { OnOk result (line.new.items ≡ line.old.items ++ spaced (file.now ∷ decimal number ∷ [])) }
+{
+    push_word(line, file)?;
+    push_number(line, number)?;
+    Ok(())
+}
+
 /// What a line names of a short: two nets, a layer, and a place in units of 1/M micron.
 #[derive(Clone, Copy)]
 struct Meeting<'a> {
@@ -110,7 +133,7 @@ struct Meeting<'a> {
     y: i32,
 }
 
-/// Appends the words of a short.
+/// Appends what a line names of a short.
 fn push_meeting(line: &mut Vec<u8>, meeting: Meeting<'_>) -> Result<(), NoMemory>
     ensures { OnOk result (line.new.items ≡ line.old.items ++ spaced (meeting.entry.first.now ∷ meeting.entry.second.now ∷ meeting.entry.layer.now
         ∷ signed_decimal meeting.entry.x ∷ signed_decimal meeting.entry.y ∷ [])) }
@@ -119,7 +142,8 @@ fn push_meeting(line: &mut Vec<u8>, meeting: Meeting<'_>) -> Result<(), NoMemory
     push_word(line, meeting.second)?;
     push_word(line, meeting.layer)?;
     push_number(line, meeting.x)?;
-    push_number(line, meeting.y)
+    push_number(line, meeting.y)?;
+    Ok(())
 }
 
 /// Appends what a refusal names.
@@ -132,11 +156,8 @@ fn push_words(
     ensures { OnOk result (line.new.items ≡ line.old.items ++ spaced (refusal_words (names_in (option_copied layout.entry)) file.now refusal.now)) }
 {
     match *refusal {
-        Refusal::At { line: number, .. } => {
-            push_word(line, file.as_bytes())?;
-            push_number(line, number)
-        }
-        Refusal::NoRules { cut, number } => push_word(line, layer_called(layout, cut, number)),
+        Refusal::At { line: number, .. } => push_place(line, file.as_bytes(), number),
+        Refusal::NoRules { cut, number } => push_one(line, layer_called(layout, cut, number)),
         Refusal::Short {
             first,
             second,
@@ -153,7 +174,7 @@ fn push_words(
                 y,
             },
         ),
-        Refusal::Limit { what } => push_word(line, what.name().as_bytes()),
+        Refusal::Limit { what } => push_one(line, what.name().as_bytes()),
     }
 }
 

@@ -1,6 +1,6 @@
 //! Whether an extraction and a SPEF file have the same nets.
 
-ghost use Rattle.std.specs.Prelude.{◌≡◌, ◌<◌, ◌-◌, ◌↔◌, ◌++◌, [], IfOk, IsTrue, MatchOption, None, Some, codes, get_or, length, slice_get};
+ghost use Rattle.std.specs.Prelude.{◌≡◌, ◌<◌, ◌↔◌, ◌++◌, IfOk, IsTrue, MatchOption, codes, length, slice_get};
 ghost use Rattle.std.specs.Fmt.{decimal};
 ghost use Rattle.std.specs.Option.{option_copied};
 ghost use Rattle.rc_spef.specs.Sameness.{name_text as name_text_of};
