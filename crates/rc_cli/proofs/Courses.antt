@@ -100,10 +100,14 @@ pub stops-later : {A B : Type 0} (before between after : Shelf) (names : List (L
     → HasStopped between after names (λ texts. next texts v) why → HasStopped before after names (λ texts. proceed (work texts) (next texts)) why
 stops-later before between after names work next v (Refused line) orderly keeps done stopped = λ told.
     ap (λ c. proceed c (next before.texts)) (done told) ∙ ap (λ texts. next texts v) (sym (same-texts before between keeps)) ∙ stopped (told-too before between keeps told)
-stops-later before between after names work next v (Fault line) orderly keeps done (name, is, file, rose, reached) =
-    (name, is, file, rose-before _ _ _ (keeps.later name) rose,
-    λ told. reaches name (work (without name before.texts)) (work before.texts) (next (without name before.texts)) v (orderly before.texts name) (done told)
-    (ap (λ texts. next (without name texts) v) (sym (same-texts before between keeps)) ∙ reached (told-too before between keeps told)))
+stops-later before between after names work next v (Fault line) orderly keeps done (name, is, file, rose, reached) = (
+  name,
+  is,
+  file,
+  rose-before _ _ _ (keeps.later name) rose,
+  λ told. reaches name (work (without name before.texts)) (work before.texts) (next (without name before.texts)) v (orderly before.texts name) (done told)
+      (ap (λ texts. next (without name texts) v) (sym (same-texts before between keeps)) ∙ reached (told-too before between keeps told)),
+)
 stops-later before between after names work next v NoMemory orderly keeps done stopped = tt
 
 -- a reading that stopped

@@ -38,9 +38,14 @@ stops-within : {A : Type 0} (before after : Shelf) (names : List (List ℕ)) (st
     → HasStopped before after names (λ texts. next step texts (steps step texts start front) name) why → HasStopped before after names (λ texts. steps step texts start (front ++ name ∷ rest)) why
 stops-within before after names step start front name rest (Refused line) stopped = λ told.
     fold-append (next step before.texts) start front (name ∷ rest) ∙ ap (λ c. steps step before.texts c rest) (stopped told) ∙ stays-refused step before.texts line rest
-stops-within before after names step start front name rest (Fault line) (file, is, has, rose, reached) =
-    (file, is, has, rose, λ told.
-    fold-append (next step (without file before.texts)) start front (name ∷ rest) ∙ ap (λ c. steps step (without file before.texts) c rest) (reached told) ∙ stays-missing step (without file before.texts) file rest)
+stops-within before after names step start front name rest (Fault line) (file, is, has, rose, reached) = (
+  file,
+  is,
+  has,
+  rose,
+  λ told.
+      fold-append (next step (without file before.texts)) start front (name ∷ rest) ∙ ap (λ c. steps step (without file before.texts) c rest) (reached told) ∙ stays-missing step (without file before.texts) file rest,
+)
 stops-within before after names step start front name rest NoMemory stopped = tt
 
 split : {B : Type 0} (all : List B) (i : ℕ) (x : B) → i < length all → x ≡ get_or all i x → all ≡ take i all ++ x ∷ drop (i + 1) all

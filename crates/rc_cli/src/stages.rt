@@ -120,7 +120,11 @@ fn require_units(alloc: Global, def: &str, drawn: &Drawn) -> Result<(), Stop>
 }
 
 /// Reads the LEF files, the DEF file, and the rule file behind them.
-fn read_with_rules<F: Files>(alloc: Global, files: &mut F, asked: &Request<'_>) -> Result<Ruled, Stop>
+fn read_with_rules<F: Files>(
+    alloc: Global,
+    files: &mut F,
+    asked: &Request<'_>,
+) -> Result<Ruled, Stop>
     ensures keeps { Keeps (shelf (F.tells files.old) (F.text files.old) (F.faults files.old)) (shelf (F.tells files.new) (F.text files.new) (F.faults files.new)) }
     ensures done { IfOk result (λ ruled. IsTrue (F.tells files.old) → ruled_of (F.text files.old) asked.now.inputs ≡ Done ruled) }
     ensures form { IfOk result (λ ruled. IsRawDesign ruled.design) }

@@ -27,13 +27,7 @@ fn tell_reply<O: Sink>(out: &mut O, reply: &Reply) -> u8
     ensures fault { result ≡ 4 → Rose (O.faults out.old) (O.faults out.new) }
 {
     match write_all(out, reply.text()) {
-        Ok(()) => {
-            if reply.differs() {
-                6
-            } else {
-                0
-            }
-        }
+        Ok(()) => { if reply.differs() { 6 } else { 0 } }
         Err(WriteFault) => 4,
     }
 }

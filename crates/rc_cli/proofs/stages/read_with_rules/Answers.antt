@@ -24,8 +24,8 @@ returns-in-Ok-read_rules-clause-done g c =
     let files = g.F.Files in
     let known = c.in-Ok.drawn in
     let read = some-units known.tech.units
-      (λ (units : Units). IsTrue (files.tells c.read_design.new.files) → read_file (files.text c.read_design.new.files) c.rules.result.now known.room (rules_outcome units known.tech) ≡ Done (c.in-Ok-read_rules.rules, c.in-Ok-read_rules.room))
-      c.in_default.ensures.some c.in-Ok-read_rules.ensures.done in
+    (λ (units : Units). IsTrue (files.tells c.read_design.new.files) → read_file (files.text c.read_design.new.files) c.rules.result.now known.room (rules_outcome units known.tech) ≡ Done (c.in-Ok-read_rules.rules, c.in-Ok-read_rules.room))
+    c.in_default.ensures.some c.in-Ok-read_rules.ensures.done in
     ruled-done (shelf (files.tells c.args.files.now) (files.text c.args.files.now) (files.faults c.args.files.now)) (shelf (files.tells c.read_design.new.files) (files.text c.read_design.new.files) (files.faults c.read_design.new.files)) c.args.asked.now c.rules.result.now known read.0 c.in-Ok-read_rules.rules c.in-Ok-read_rules.room
     c.rules.ensures read.1 c.in-Ok.ensures.keeps c.in-Ok.ensures.done read.2
 
@@ -34,7 +34,7 @@ returns-in-Err-read_rules-clause-stopped g c =
     let files = g.F.Files in
     let known = c.in-Ok.drawn in
     let read = some-units known.tech.units
-      (λ (units : Units). IsUnread (shelf (files.tells c.read_design.new.files) (files.text c.read_design.new.files) (files.faults c.read_design.new.files)) (shelf (files.tells c.read_rules.new.files) (files.text c.read_rules.new.files) (files.faults c.read_rules.new.files)) c.rules.result.now (read_file (files.text c.read_design.new.files) c.rules.result.now known.room (rules_outcome units known.tech)) c.in-Err-read_rules.why)
-      c.in_default.ensures.some c.in-Err-read_rules.ensures.unread in
+    (λ (units : Units). IsUnread (shelf (files.tells c.read_design.new.files) (files.text c.read_design.new.files) (files.faults c.read_design.new.files)) (shelf (files.tells c.read_rules.new.files) (files.text c.read_rules.new.files) (files.faults c.read_rules.new.files)) c.rules.result.now (read_file (files.text c.read_design.new.files) c.rules.result.now known.room (rules_outcome units known.tech)) c.in-Err-read_rules.why)
+    c.in_default.ensures.some c.in-Err-read_rules.ensures.unread in
     ruled-stops-later (shelf (files.tells c.args.files.now) (files.text c.args.files.now) (files.faults c.args.files.now)) (shelf (files.tells c.read_design.new.files) (files.text c.read_design.new.files) (files.faults c.read_design.new.files)) (shelf (files.tells c.read_rules.new.files) (files.text c.read_rules.new.files) (files.faults c.read_rules.new.files)) c.args.asked.now c.rules.result.now known read.0 c.in-Err-read_rules.why
     c.rules.ensures read.1 c.in-Ok.ensures.keeps c.in-Ok.ensures.done read.2
