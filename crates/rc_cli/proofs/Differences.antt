@@ -1,12 +1,13 @@
 -- The first position at which two values have different nets.
-use Rattle.std.proofs.Common.{◌≡◌, ◌≢◌, ℕ, ◌≤◌, min, List, length, Some, None, ap, sym, ◌∙◌, arith}
+use Rattle.std.proofs.Common.{◌≡◌, ◌≢◌, ℕ, ◌≤◌, min, List, length, Option, Some, None, refl, ap, sym, ◌∙◌, arith}
+use Rattle.std.specs.Prelude.{MatchOption}
 use Rattle.std.proofs.lemmas.List.{length-map}
 use Rattle.rc_spef.specs.declared.value.Spef.{Spef}
 use Rattle.rc_spef.specs.declared.value.DNet.{DNet}
 use Rattle.rc_spef.specs.Sameness.{named_net}
 use Rattle.rc_spef.specs.SameTests.{same_net}
 use Rattle.rc_spef.proofs.Alike.{net_decides}
-use Rattle.rc_cli.specs.Verdict.{first_difference, named_nets, IsFirstApart}
+use Rattle.rc_cli.specs.Verdict.{first_difference, named_nets, IsFirstApart, IsVerdict, verdict}
 use Rattle.rc_cli.proofs.Apart.{AgreeBelow, agree_all, apart_at, apart_nowhere, one_ended}
 
 pub differs_at : (a b : Spef) (place : ℕ) → IsFirstApart (named_nets a) (named_nets b) place → Some place ≡ first_difference a b
@@ -40,3 +41,9 @@ one_has_more a b ours theirs both place of_a of_b long least done agree =
       λ k below. agree k (omega (arith, below, done)),
       one_ended (named_nets a) (named_nets b) both (omega (arith, many_a, many_b, least)) (λ same. long (sym many_a ∙ same ∙ many_b)),
     )
+
+-- a position that was found is what the verdict speaks of
+pub means : (a b : Spef) (found : Option ℕ) → found ≡ first_difference a b →
+    MatchOption found (named_nets a ≡ named_nets b) (λ place. IsFirstApart (named_nets a) (named_nets b) place) → IsVerdict a b (verdict a b)
+means a b None is alike = rw (sym is) alike
+means a b (Some place) is apart = rw (sym is) (place, apart, refl)

@@ -1,5 +1,5 @@
 -- From a layout to the reply: what refuses it, what is read last, and what all comes to.
-use Rattle.std.proofs.Common.{◌≡◌, ◌+◌, ◌*◌, ◌++◌, ◌∷◌, [], ℕ, List, ap, ◌∙◌, refl, sym, subst, arith}
+use Rattle.std.proofs.Common.{◌≡◌, ◌≤◌, ◌+◌, ◌*◌, ◌++◌, ◌∷◌, [], ℕ, List, ap, ◌∙◌, refl, sym, subst, arith}
 use Rattle.std.specs.Prelude.{IsTrue, Contains, Option, Some, None, Result, Ok, Err, IfOk, IfErr}
 use Rattle.std.proofs.lemmas.List.Elements.{Contains-append_right}
 use Rattle.rc_keys.specs.declared.fault.Fault.{Fault as Failure}
@@ -18,7 +18,7 @@ use Rattle.rc_cli.specs.declared.stop.Stop.TheVariants.{Refused, Fault, NoMemory
 use Rattle.rc_cli.specs.Command.{Inputs, Task, Extract, Verify, Request, spef_word, task_words, file_words}
 use Rattle.rc_cli.specs.Lines.{names_of}
 use Rattle.rc_cli.specs.Outcome as course
-use Rattle.rc_cli.specs.Outcome.{Texts, Course, Done, Reply, proceed, unless_refused, read_file, layout, extracted, written, compared, reply, outcome, passes_over, passes}
+use Rattle.rc_cli.specs.Outcome.{Texts, Course, Done, Reply, proceed, unless_refused, read_file, layout, extracted, written, compared, reply, outcome, passes_for}
 use Rattle.rc_cli.specs.Answers.{Shelf}
 use Rattle.rc_cli.specs.Work.{Keeps, HasStopped, IsUnread, IsRefusedBy, TellsFault}
 use Rattle.rc_cli.proofs.Courses.{stops-first, stops-later, stops-file, stops-refused, done-then}
@@ -145,5 +145,11 @@ outcome-stops (Err why) before between after asked name placed room spef is left
 
 -- ---- passes
 
-pub passes-are : (texts : Texts) (inputs : Inputs) (placed : Placed) → layout texts inputs ≡ Done placed → passes texts inputs ≡ 2 * window_count (grid_of placed.layout placed.rules)
-passes-are texts inputs placed done = ap passes_over done
+-- so many were drawn, or at most so many
+pub drew : (placed : Placed) (before after : ℕ) → after ≡ before + 2 * window_count (grid_of placed.layout placed.rules) → after ≡ before + passes_for placed
+unfolding passes_for
+drew placed before after is = is
+
+pub drew_within : (placed : Placed) (before after : ℕ) → after ≤ before + 2 * window_count (grid_of placed.layout placed.rules) → after ≤ before + passes_for placed
+unfolding passes_for
+drew_within placed before after is = is

@@ -139,9 +139,13 @@ outcome texts asked =
 
 -- ---- sweeps
 
--- two for each window of the grid of the layout that the files link to
+-- two for each window of the grid of a layout
+unfoldable pub passes_for : Placed → ℕ
+passes_for placed = 2 * window_count (grid_of placed.layout placed.rules)
+
+-- those of the layout that the files link to
 abbrev pub passes_over : Course Placed → ℕ
-passes_over (Done placed) = 2 * window_count (grid_of placed.layout placed.rules)
+passes_over (Done placed) = passes_for placed
 passes_over _ = 0
 
 abbrev pub passes : Texts → Inputs → ℕ

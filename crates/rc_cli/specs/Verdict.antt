@@ -39,6 +39,13 @@ name_at extraction file place = unwrap_or (option_or (net_at extraction place) (
 abbrev pub verdict : Spef → Spef → Option (List ℕ)
 verdict extraction file = option_map (name_at extraction file) (first_difference extraction file)
 
+-- what a verdict says: without a name, that the lists of nets are equal; with one, that it is the name at the first place where
+-- they aren't
+abbrev pub IsVerdict : Spef → Spef → Option (List ℕ) → Type 0
+IsVerdict extraction file None = named_nets extraction ≡ named_nets file
+IsVerdict extraction file (Some name) =
+    (place : ℕ) × IsFirstApart (named_nets extraction) (named_nets file) place × (name ≡ name_at extraction file place)
+
 -- how a verdict on so many nets is told
 abbrev pub told : ℕ → Option (List ℕ) → List ℕ
 told count None = codes "same " ++ decimal count ++ codes "\n"

@@ -1,10 +1,8 @@
 //! From a layout and its rules to the extraction.
 
-ghost use Rattle.std.specs.Prelude.{◌≡◌, ◌≤◌, ◌+◌, ◌*◌, ◌^◌, IfOk, IfErr, OnOk};
-ghost use Rattle.rc_windows.specs.Frames.{window_count};
-ghost use Rattle.rc_engine.specs.Start.{grid_of};
+ghost use Rattle.std.specs.Prelude.{◌≡◌, ◌≤◌, ◌+◌, ◌^◌, IfOk, IfErr, OnOk};
 ghost use Rattle.rc_engine.specs.Extraction.{extraction};
-ghost use Rattle.rc_cli.specs.Outcome.{Done, extracted as extracted_of};
+ghost use Rattle.rc_cli.specs.Outcome.{Done, extracted as extracted_of, passes_for};
 ghost use Rattle.rc_cli.specs.Work.{IsRefusedBy};
 
 use crate::stages::Placed;
@@ -37,9 +35,9 @@ fn started<R: Threads + Sync, M: Meter, G: Gate>(
     ensures rules { IfOk result (λ engine. engine.rules ≡ placed.rules) }
     ensures accepted { IfOk result (λ engine. extracted_of def.now placed ≡ Done (extraction placed.layout placed.rules)) }
     ensures refused { IfErr result (IsRefusedBy (extracted_of def.now placed)) }
-    ensures ok { OnOk result (M.drawn meter.new ≡ M.drawn meter.old + 2 * window_count (grid_of placed.layout placed.rules)) }
+    ensures ok { OnOk result (M.drawn meter.new ≡ M.drawn meter.old + passes_for placed) }
     ensures least { M.drawn meter.old ≤ M.drawn meter.new }
-    ensures spent { M.drawn meter.new ≤ M.drawn meter.old + 2 * window_count (grid_of placed.layout placed.rules) }
+    ensures spent { M.drawn meter.new ≤ M.drawn meter.old + passes_for placed }
 {
     let Placed {
         layout,
@@ -75,9 +73,9 @@ pub fn extracted<R: Threads + Sync, M: Meter, G: Gate>(
     requires drawn { M.drawn meter.old ≤ 2 ^ 62 }
     ensures done { IfOk result (λ spef. extracted_of def.now placed ≡ Done spef) }
     ensures refused { IfErr result (IsRefusedBy (extracted_of def.now placed)) }
-    ensures ok { OnOk result (M.drawn meter.new ≡ M.drawn meter.old + 2 * window_count (grid_of placed.layout placed.rules)) }
+    ensures ok { OnOk result (M.drawn meter.new ≡ M.drawn meter.old + passes_for placed) }
     ensures least { M.drawn meter.old ≤ M.drawn meter.new }
-    ensures spent { M.drawn meter.new ≤ M.drawn meter.old + 2 * window_count (grid_of placed.layout placed.rules) }
+    ensures spent { M.drawn meter.new ≤ M.drawn meter.old + passes_for placed }
 {
     let engine = match started(rt, alloc, workers, def, placed, meter, gate) {
         Ok(engine) => engine,

@@ -4,7 +4,7 @@ ghost use Rattle.std.specs.Prelude.{◌≡◌, ◌<◌, ◌↔◌, ◌++◌, IfO
 ghost use Rattle.std.specs.Fmt.{decimal};
 ghost use Rattle.std.specs.Option.{option_copied};
 ghost use Rattle.rc_spef.specs.Sameness.{name_text as name_text_of};
-ghost use Rattle.rc_cli.specs.Verdict.{named_nets, first_difference as first_difference_of, IsFirstApart, net_at, name_at as name_at_of, verdict as verdict_of, verdict_text, kind_of};
+ghost use Rattle.rc_cli.specs.Verdict.{named_nets, first_difference as first_difference_of, IsFirstApart, net_at, name_at as name_at_of, verdict as verdict_of, IsVerdict, verdict_text, kind_of};
 
 use itoa::Buffer;
 use rc_fixed::{NoMemory, Text};
@@ -114,9 +114,11 @@ fn differs_text(alloc: Global, name: &[u8]) -> Result<Text, NoMemory>
 /// # Errors
 ///
 /// `NoMemory` for want of memory.
+#[tactic(auto, using(crate::proofs::Differences::means))]
 pub fn verify(alloc: Global, extraction: &Spef, file: &Spef) -> Result<Told, NoMemory>
     ensures text { IfOk result (λ told. told.text ≡ verdict_text extraction.now file.now) }
     ensures verdict { IfOk result (λ told. told.verdict ≡ kind_of (verdict_of extraction.now file.now)) }
+    ensures means { IsVerdict extraction.now file.now (verdict_of extraction.now file.now) }
 {
     let Some(place) = first_difference(extraction, file) else {
         let text = same_text(alloc, extraction.nets.items().len())?;
