@@ -81,7 +81,9 @@ pub fn extracted<R: Threads + Sync, M: Meter, G: Gate>(
         Ok(engine) => engine,
         Err(why) => return Err(why),
     };
-    match engine.parasitics(alloc) {
+    let extraction = engine.parasitics(alloc);
+    discard(engine);
+    match extraction {
         Ok(spef) => Ok(spef),
         Err(NoMemory) => Err(Stop::NoMemory),
     }

@@ -54,6 +54,9 @@ impl Reply {
     }
 }
 
+/// Lets a value go.
+fn discard<T: Drop>(_value: T) {}
+
 /// The extraction is written.
 fn written(alloc: Global, spef: &Spef) -> Result<Reply, NoMemory>
     ensures { IfOk result (λ reply. reply ≡ written_of spef.now) }
@@ -111,7 +114,9 @@ fn answer<F: Files>(
         Ok(read) => read,
         Err(why) => return Err(why),
     };
-    match compared(alloc, spef, &file) {
+    let verdict = compared(alloc, spef, &file);
+    discard(file);
+    match verdict {
         Ok(reply) => Ok(reply),
         Err(NoMemory) => Err(Stop::NoMemory),
     }
@@ -148,5 +153,7 @@ pub fn work<R: Threads + Sync, F: Files, M: Meter, G: Gate>(
         Ok(spef) => spef,
         Err(why) => return Err(why),
     };
-    answer(alloc, files, asked, room, &spef)
+    let answered = answer(alloc, files, asked, room, &spef);
+    discard(spef);
+    answered
 }
