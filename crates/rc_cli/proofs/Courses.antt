@@ -1,162 +1,190 @@
 -- How the work goes on, stage by stage.
-use Rattle.std.proofs.Common.{◌≡◌, ◌<◌, ◌≤◌, ◌-◌, ℕ, List, Bool, true, false, cond, Option, Some, None, length, ap, ◌∙◌, refl, sym, arith}
-use Rattle.std.specs.Prelude.{nat_lt, IsTrue, Result, Ok, Err, IfOk, IfErr}
-use Rattle.std.proofs.Common.{inl, inr, subst}
-use Rattle.rc_io.specs.Memory.{GatheredBytes}
-use Rattle.rc_io.specs.Causes.{Rose}
+use Rattle.std.proofs.Common.{◌≡◌, ◌<◌, ◌≤◌, ◌-◌, ◌++◌, ◌∷◌, [], ℕ, List, Bool, true, false, cond, Option, Some, None, length, ap, ◌∙◌, refl, sym, arith, inl, inr, subst, ⊎_elim}
+use Rattle.std.specs.Prelude.{◌⊎◌, nat_lt, IsTrue, Contains, Result, Ok, Err, fold}
+use Rattle.std.specs.Str.{bytes_eq}
+use Rattle.std.proofs.Math.Path.{fun_ext}
 use Rattle.std.proofs.lemmas.Bool.Decides.{nat_tests}
-use Rattle.rc_cli.specs.Command.{Extract}
-use Rattle.rc_cli.specs.TechForm.{Tech, tech_of}
-use Rattle.rc_cli.specs.DesignForm.{Design, design_of}
-use Rattle.rc_cli.specs.RuleForm.{rules_of, Rules as RuleValues}
-use Rattle.rc_cli.specs.Layout.{Layout, linked, first_short}
-use Rattle.rc_cli.specs.declared.work.Stop.{Stop}
-use Rattle.rc_cli.specs.declared.work.Stop.TheVariants.{Refused, Fault, NoMemory}
-use Rattle.rc_cli.specs.declared.command.FileWord.{FileWord}
-use Rattle.rc_cli.specs.declared.command.FileWord.TheVariants.{Rules, Def, Lef}
-use Rattle.rc_cli.specs.Command.{file_name}
-use Rattle.rc_cli.specs.Answers.{Sources, IsReached, IsFile}
-use Rattle.rc_cli.specs.Work.{HasStopped, IsUnread, IsRefusedBy, IsUnextracted}
+use Rattle.std.proofs.lemmas.Slice.Eq.{bytes_eq-Decides}
+use Rattle.std.proofs.lemmas.Grind.{fold-append}
+use Rattle.rc_io.specs.Causes.{Rose}
+use Rattle.rc_keys.specs.declared.code.Quantity.TheVariants.{Bytes}
+use Rattle.rc_keys.specs.declared.fault.Fault.{Fault as Failure}
+use Rattle.rc_keys.specs.declared.fault.Fault.TheVariants as failure
+use Rattle.rc_keys.specs.declared.fault.Refusal.{Refusal}
+use Rattle.rc_keys.specs.declared.fault.Refusal.TheVariants.{Limit}
+use Rattle.rc_cli.specs.declared.stop.Stop.{Stop}
+use Rattle.rc_cli.specs.declared.stop.Stop.TheVariants.{Refused, Fault, NoMemory}
+use Rattle.rc_cli.specs.Lines.{Names, no_names, refusal_line, read_fault_line}
 use Rattle.rc_cli.specs.Outcome as course
-use Rattle.rc_cli.specs.Outcome.{Texts, Course, Done, proceed, extracted, formed, read_within, bytes_line, form_line, most_bytes, technology, layout, inputs, outcome}
+use Rattle.rc_cli.specs.Outcome.{Texts, Course, Missing, Done, proceed, settled, formed, read_within, read_file}
+use Rattle.rc_cli.specs.Answers.{Shelf, without}
+use Rattle.rc_cli.specs.Work.{Keeps, HasStopped, IsUnread, IsTextless, IsRefusedBy, TellsFault}
 
--- a file that is too long
-pub too_long : {A : Type 0} (name text : List ℕ) (room : ℕ) (form : List ℕ → Option A) (found : Option (List ℕ)) →
-    found ≡ Some text → room < length text → read_within name room form found ≡ course.Refused bytes_line
-too_long name text room form found is long =
-    let test : nat_lt room (length text) ≡ true = grind (arith, nat_tests) in
-    ap (read_within name room form) is ∙ ap (λ b. cond b (course.Refused bytes_line) (formed name (room - length text) (form text))) test
+-- ---- what files keep
 
--- a file that isn't
-pub short_enough : {A : Type 0} (name text : List ℕ) (room : ℕ) (form : List ℕ → Option A) (found : Option (List ℕ)) →
-    found ≡ Some text → length text ≤ room → read_within name room form found ≡ formed name (room - length text) (form text)
-short_enough name text room form found is short =
-    let test : nat_lt room (length text) ≡ false = grind (arith, nat_tests) in
-    ap (read_within name room form) is ∙ ap (λ b. cond b (course.Refused bytes_line) (formed name (room - length text) (form text))) test
+pub keeps-same : (s : Shelf) → Keeps s s
+keeps-same s = record { tells = refl; texts = λ n. refl; later = λ n. omega arith }
 
--- a text of the form
-pub formed_within : {A : Type 0} (name text : List ℕ) (room left : ℕ) (form : List ℕ → Option A) (value : A) (found : Option (List ℕ)) →
-    found ≡ Some text → length text ≤ room → left ≡ room - length text → form text ≡ Some value → read_within name room form found ≡ Done (value, left)
-formed_within name text room left form value found is short rest some =
-    short_enough name text room form found is short ∙ ap (formed name (room - length text)) some ∙ ap (λ n. Done (value, n)) (sym rest)
+pub keeps-then : (before between after : Shelf) → Keeps before between → Keeps between after → Keeps before after
+keeps-then before between after first second = record {
+  tells = second.tells ∙ first.tells;
+  texts = λ n. second.texts n ∙ first.texts n;
+  later = λ n. let a = first.later n in let b = second.later n in omega (arith, a, b);
+}
 
--- how far the work is: the technology is there, the layout is there
-abbrev pub HasTechnology : Bool → Texts → Extract → Tech → ℕ → Type 0
-HasTechnology tells texts asked tech room = IsTrue tells → technology texts asked ≡ Done (tech, room)
+pub same-texts : (before after : Shelf) → Keeps before after → after.texts ≡ before.texts
+same-texts before after keeps = fun_ext keeps.texts
 
-abbrev pub HasLayout : Bool → Texts → Extract → Layout → ℕ → Type 0
-HasLayout tells texts asked linked room = IsTrue tells → layout texts asked ≡ Done (linked, room)
-
-pub has-technology : (tells : Bool) (texts : Texts) (asked : Extract) (name text : List ℕ) (tech : Tech) (left : ℕ) → name ≡ asked.lef → (IsTrue tells → texts name ≡ Some text) →
-    length text ≤ most_bytes → left ≡ most_bytes - length text → tech_of text ≡ Some tech → HasTechnology tells texts asked tech left
-unfolding technology
-has-technology tells texts asked name text tech left is found short rest some = λ told.
-    formed_within asked.lef text most_bytes left tech_of tech (texts asked.lef) (ap texts (sym is) ∙ found told) short rest some
-
-pub has-layout : (tells : Bool) (texts : Texts) (asked : Extract) (name text : List ℕ) (tech : Tech) (room left : ℕ) (design : Design) → HasTechnology tells texts asked tech room →
-    name ≡ asked.def → (IsTrue tells → texts name ≡ Some text) → length text ≤ room → left ≡ room - length text → design_of tech.layer text ≡ Some design →
-    HasLayout tells texts asked (linked tech design) left
-unfolding layout
-has-layout tells texts asked name text tech room left design before is found short rest some = λ told.
-    rw (before told, formed_within asked.def text room left (design_of tech.layer) design (texts asked.def) (ap texts (sym is) ∙ found told) short rest some) refl
-
--- what refuses a file refuses the run, where the work gets to that file
-abbrev pub Refuses : {A : Type 0} → Bool → Texts → Extract → List ℕ → ℕ → (List ℕ → Option A) → Type 0
-Refuses tells texts asked name room form =
-    (line : List ℕ) → IsTrue tells → read_within name room form (texts name) ≡ course.Refused line → outcome texts asked ≡ course.Refused line
-
-pub technology-refuses : (tells : Bool) (texts : Texts) (asked : Extract) (name : List ℕ) → name ≡ asked.lef → Refuses tells texts asked name most_bytes tech_of
-unfolding outcome inputs layout technology
-technology-refuses tells texts asked name is = λ line told refused.
-    let lef : read_within asked.lef most_bytes tech_of (texts asked.lef) ≡ course.Refused line = ap (λ n. read_within n most_bytes tech_of (texts n)) (sym is) ∙ refused in
-    rw lef refl
-
-pub layout-refuses : (tells : Bool) (texts : Texts) (asked : Extract) (name : List ℕ) (tech : Tech) (room : ℕ) → HasTechnology tells texts asked tech room → name ≡ asked.def →
-    Refuses tells texts asked name room (design_of tech.layer)
-unfolding outcome inputs layout
-layout-refuses tells texts asked name tech room before is = λ line told refused.
-    let def : read_within asked.def room (design_of tech.layer) (texts asked.def) ≡ course.Refused line =
-    ap (λ n. read_within n room (design_of tech.layer) (texts n)) (sym is) ∙ refused in
-    rw (before told, def) refl
-
-pub inputs-refuses : (tells : Bool) (texts : Texts) (asked : Extract) (name : List ℕ) (linked : Layout) (room : ℕ) → HasLayout tells texts asked linked room → name ≡ asked.rules →
-    Refuses tells texts asked name room (rules_of linked.layer)
-unfolding outcome inputs
-inputs-refuses tells texts asked name linked room before is = λ line told refused.
-    let rules : read_within asked.rules room (rules_of linked.layer) (texts asked.rules) ≡ course.Refused line =
-    ap (λ n. read_within n room (rules_of linked.layer) (texts n)) (sym is) ∙ refused in
-    rw (before told, rules) refl
-
-is_file : (asked : Extract) (word : FileWord) → IsFile asked (file_name asked word)
-is_file asked Lef = inl refl
-is_file asked Def = inr (inl refl)
-is_file asked Rules = inr (inr refl)
-
--- a file that wasn't read stops the work
-pub unread : {A : Type 0} (s : Sources) (asked : Extract) (name : List ℕ) (word : FileWord) (room : ℕ) (form : List ℕ → Option A) (why : Stop) →
-    name ≡ file_name asked word → (IsTrue s.tells → IsReached s.texts asked name) → Refuses s.tells s.texts asked name room form → IsUnread s name word room why → HasStopped s asked why
-unread s asked name word room form (Refused line) is reached refuses (same, long) = λ told.
-    let found = long told in
-    refuses line told (too_long name found.0 room form (s.texts name) found.1 found.2 ∙ ap course.Refused (sym same))
-unread s asked name word room form (Fault failed) is reached refuses (same, rose) =
-    let here : name ≡ file_name asked failed = is ∙ ap (file_name asked) (sym same) in
-    record {
-      file = is_file asked failed;
-      rose = subst (λ n. Rose (s.faults_before n) (s.faults_after n)) here rose;
-      reached = λ told. subst (IsReached s.texts asked) here (reached told);
-    }
-unread s asked name word room form NoMemory is reached refuses stopped = tt
-
--- a file without the reduced form does
-pub unformed : {A : Type 0} (s : Sources) (asked : Extract) (name text : List ℕ) (room : ℕ) (form : List ℕ → Option A) (why : Stop) →
-    (IsTrue s.tells → s.texts name ≡ Some text) → length text ≤ room → form text ≡ None → Refuses s.tells s.texts asked name room form → IsRefusedBy (form_line name) why →
-    HasStopped s asked why
-unformed s asked name text room form (Refused line) found short none refuses same = λ told.
-    refuses line told (short_enough name text room form (s.texts name) (found told) short ∙ ap (formed name (room - length text)) none ∙ ap course.Refused (sym same))
-unformed s asked name text room form (Fault failed) found short none refuses same = absurd same
-unformed s asked name text room form NoMemory found short none refuses same = tt
+pub told-too : (before after : Shelf) → Keeps before after → IsTrue before.tells → IsTrue after.tells
+told-too before after keeps told = subst IsTrue (sym keeps.tells) told
 
 rose-before : (before between now : ℕ) → before ≤ between → Rose between now → Rose before now
 rose-before before between now le rose = omega (arith, le, rose)
 
--- what stops a later reading, seen from the start of the work
-pub since : (s later : Sources) (name : List ℕ) (word : FileWord) (room : ℕ) (why : Stop) → later.tells ≡ s.tells → ((n : List ℕ) → later.texts n ≡ s.texts n) →
-    ((n : List ℕ) → s.faults_before n ≤ later.faults_before n) → ((n : List ℕ) → later.faults_after n ≡ s.faults_after n) →
-    IsUnread later name word room why → IsUnread s name word room why
-since s later name word room (Refused line) tells texts before after (same, long) =
-    (same, λ told. let found = long (subst IsTrue (sym tells) told) in (found.0, sym (texts name) ∙ found.1, found.2))
-since s later name word room (Fault failed) tells texts before after (same, rose) =
-    (same, rose-before _ _ _ (before name) (subst (Rose (later.faults_before name)) (after name) rose))
-since s later name word room NoMemory tells texts before after stopped = tt
+-- ---- a file that isn't there
 
--- what a later reading found, seen from the start of the work
-pub found-since : (tells later : Bool) (texts later_texts : Texts) (name text : List ℕ) → later ≡ tells → ((n : List ℕ) → later_texts n ≡ texts n) →
-    (IsTrue later → later_texts name ≡ Some text) → IsTrue tells → texts name ≡ Some text
-found-since tells later texts later_texts name text same_tells same found told = sym (same name) ∙ found (subst IsTrue (sym same_tells) told)
+pub by-test : {R : Type 0} (test : Bool) → (test ≡ true → R) → (test ≡ false → R) → R
+by-test true held failed = held refl
+by-test false held failed = failed refl
 
--- what the inputs come to is what the run comes to
-pub outcome-extracted : (tells : Bool) (texts : Texts) (asked : Extract) (name text : List ℕ) (linked : Layout) (room : ℕ) (rules : RuleValues) → HasLayout tells texts asked linked room →
-    name ≡ asked.rules → (IsTrue tells → texts name ≡ Some text) → length text ≤ room → rules_of linked.layer text ≡ Some rules →
-    IsTrue tells → outcome texts asked ≡ extracted linked rules (first_short linked)
-unfolding outcome inputs
-outcome-extracted tells texts asked name text linked room rules before is found short some told =
-    rw (before told, formed_within asked.rules text room (room - length text) (rules_of linked.layer) rules (texts asked.rules) (ap texts (sym is) ∙ found told) short refl some) refl
+same-bytes : (name : List ℕ) → bytes_eq name name ≡ true
+same-bytes name = (bytes_eq-Decides name name).1 refl
 
--- what stops the extraction stops the work
-pub unextracted : (s : Sources) (asked : Extract) (linked : Layout) (rules : RuleValues) (why : Stop) → (IsTrue s.tells → outcome s.texts asked ≡ extracted linked rules (first_short linked)) →
-    IsUnextracted linked rules why → HasStopped s asked why
-unextracted s asked linked rules (Refused line) comes refused = λ told. comes told ∙ refused
-unextracted s asked linked rules (Fault word) comes refused = absurd refused
-unextracted s asked linked rules NoMemory comes refused = tt
+pub gone : (name : List ℕ) (texts : Texts) → without name texts name ≡ None
+gone name texts = ap (λ b. cond b None (texts name)) (same-bytes name)
 
--- the text of an extraction, and what stops one, as the work tells them
-pub told-text : (r : Result GatheredBytes Stop) (tells : Bool) (texts : Texts) (asked : Extract) (linked : Layout) (rules : RuleValues) →
-    (IsTrue tells → outcome texts asked ≡ extracted linked rules (first_short linked)) → IfOk r (λ gathered. extracted linked rules (first_short linked) ≡ Done gathered.bytes) →
-    IfOk r (λ gathered. IsTrue tells → outcome texts asked ≡ Done gathered.bytes)
-told-text (Ok gathered) tells texts asked linked rules comes done = λ told. comes told ∙ done
-told-text (Err why) tells texts asked linked rules comes done = tt
+-- a work comes to the same without the file of a name, or it ends at that file
+abbrev pub IsOrderly : {A : Type 0} → (Texts → Course A) → Type 0
+IsOrderly work = (texts : Texts) (name : List ℕ) → (work (without name texts) ≡ Missing name) ⊎ (work (without name texts) ≡ work texts)
 
-pub told-stop : (r : Result GatheredBytes Stop) (s : Sources) (asked : Extract) (linked : Layout) (rules : RuleValues) →
-    (IsTrue s.tells → outcome s.texts asked ≡ extracted linked rules (first_short linked)) → IfErr r (IsUnextracted linked rules) → IfErr r (λ why. HasStopped s asked why)
-told-stop (Ok gathered) s asked linked rules comes stopped = tt
-told-stop (Err why) s asked linked rules comes stopped = unextracted s asked linked rules why comes stopped
+pub orderly-same : {A : Type 0} (c : Course A) → IsOrderly (λ texts. c)
+orderly-same c texts name = inr refl
+
+orderly-from : {A B : Type 0} (name : List ℕ) (with all : Course A) (next after : A → Course B) → (with ≡ Missing name) ⊎ (with ≡ all)
+    → ((v : A) → (next v ≡ Missing name) ⊎ (next v ≡ after v)) → (proceed with next ≡ Missing name) ⊎ (proceed with next ≡ proceed all after)
+orderly-from name with all next after (inl gone) then = inl (ap (λ c. proceed c next) gone)
+orderly-from name with (Missing n) next after (inr same) then = inr (ap (λ c. proceed c next) same)
+orderly-from name with (course.Refused line) next after (inr same) then = inr (ap (λ c. proceed c next) same)
+orderly-from name with (Done v) next after (inr same) then =
+    elim (then v) [ inl gone ↦ inl (ap (λ c. proceed c next) same ∙ gone) | inr is ↦ inr (ap (λ c. proceed c next) same ∙ is) ]
+
+pub orderly-proceed : {A B : Type 0} (work : Texts → Course A) (next : Texts → A → Course B) → IsOrderly work → ((v : A) → IsOrderly (λ texts. next texts v))
+    → IsOrderly (λ texts. proceed (work texts) (next texts))
+orderly-proceed work next first then texts name =
+    orderly-from name (work (without name texts)) (work texts) (next (without name texts)) (next texts) (first texts name) (λ v. then v texts name)
+
+pub orderly-read : {A : Type 0} (file : List ℕ) (room : ℕ) (form : List ℕ → Result A Refusal) → IsOrderly (λ texts. read_file texts file room form)
+orderly-read file room form texts name =
+    by-test (bytes_eq file name)
+    (λ is. inl (ap (λ b. read_within file room form (cond b None (texts file))) is ∙ ap Missing ((bytes_eq-Decides file name).0 is)))
+    (λ is. inr (ap (λ b. read_within file room form (cond b None (texts file))) is))
+
+-- ---- what stops a part stops the whole
+
+-- what goes on from a part that stopped
+pub stops-first : {A B : Type 0} (before after : Shelf) (names : List (List ℕ)) (work : Texts → Course A) (next : Texts → A → Course B) (why : Stop)
+    → HasStopped before after names work why → HasStopped before after names (λ texts. proceed (work texts) (next texts)) why
+stops-first before after names work next (Refused line) stopped = λ told. ap (λ c. proceed c (next before.texts)) (stopped told)
+stops-first before after names work next (Fault line) (name, is, file, rose, reached) =
+    (name, is, file, rose, λ told. ap (λ c. proceed c (next (without name before.texts))) (reached told))
+stops-first before after names work next NoMemory stopped = tt
+
+reaches : {A B : Type 0} (name : List ℕ) (with all : Course A) (next : A → Course B) (v : A) → (with ≡ Missing name) ⊎ (with ≡ all) → all ≡ Done v → next v ≡ Missing name
+    → proceed with next ≡ Missing name
+reaches name with all next v (inl gone) done missing = ap (λ c. proceed c next) gone
+reaches name with all next v (inr same) done missing = ap (λ c. proceed c next) (same ∙ done) ∙ missing
+
+-- what goes on from a part that is done, and stops
+pub stops-later : {A B : Type 0} (before between after : Shelf) (names : List (List ℕ)) (work : Texts → Course A) (next : Texts → A → Course B) (v : A) (why : Stop)
+    → IsOrderly work → Keeps before between → (IsTrue before.tells → work before.texts ≡ Done v)
+    → HasStopped between after names (λ texts. next texts v) why → HasStopped before after names (λ texts. proceed (work texts) (next texts)) why
+stops-later before between after names work next v (Refused line) orderly keeps done stopped = λ told.
+    ap (λ c. proceed c (next before.texts)) (done told) ∙ ap (λ texts. next texts v) (sym (same-texts before between keeps)) ∙ stopped (told-too before between keeps told)
+stops-later before between after names work next v (Fault line) orderly keeps done (name, is, file, rose, reached) = (
+  name,
+  is,
+  file,
+  rose-before _ _ _ (keeps.later name) rose,
+  λ told. reaches name (work (without name before.texts)) (work before.texts) (next (without name before.texts)) v (orderly before.texts name) (done told)
+      (ap (λ texts. next (without name texts) v) (sym (same-texts before between keeps)) ∙ reached (told-too before between keeps told)),
+)
+stops-later before between after names work next v NoMemory orderly keeps done stopped = tt
+
+-- a reading that stopped
+pub stops-unread : {A : Type 0} (before after : Shelf) (names : List (List ℕ)) (name : List ℕ) (reading : Texts → Course A) (why : Stop)
+    → Contains names name → ((texts : Texts) → texts name ≡ None → reading texts ≡ Missing name)
+    → IsUnread before after name (reading before.texts) why → HasStopped before after names reading why
+stops-unread before after names name reading (Refused line) file begins stopped = stopped
+stops-unread before after names name reading (Fault line) file begins (is, rose) = (name, is, file, rose, λ told. begins (without name before.texts) (gone name before.texts))
+stops-unread before after names name reading NoMemory file begins stopped = tt
+
+-- the reading of a file
+pub stops-file : {A : Type 0} (before after : Shelf) (names : List (List ℕ)) (name : List ℕ) (room : ℕ) (form : List ℕ → Result A Refusal) (why : Stop)
+    → Contains names name → IsUnread before after name (read_file before.texts name room form) why → HasStopped before after names (λ texts. read_file texts name room form) why
+stops-file before after names name room form why file unread =
+    stops-unread before after names name (λ texts. read_file texts name room form) why file (λ texts none. ap (read_within name room form) none) unread
+
+-- what reads no file
+pub stops-refused : {A : Type 0} (before after : Shelf) (names : List (List ℕ)) (c : Course A) (why : Stop) → IsRefusedBy c why → HasStopped before after names (λ texts. c) why
+stops-refused before after names c (Refused line) stopped = λ told. stopped
+stops-refused before after names c (Fault line) stopped = absurd stopped
+stops-refused before after names c NoMemory stopped = tt
+
+-- among more names
+pub stops-among : {A : Type 0} (before after : Shelf) (few many : List (List ℕ)) (work : Texts → Course A) (why : Stop) → ((name : List ℕ) → Contains few name → Contains many name)
+    → HasStopped before after few work why → HasStopped before after many work why
+stops-among before after few many work (Refused line) more stopped = stopped
+stops-among before after few many work (Fault line) more (name, is, file, rose, reached) = (name, is, more name file, rose, reached)
+stops-among before after few many work NoMemory more stopped = tt
+
+-- ---- what is done
+
+pub done-then : {A B : Type 0} (before between : Shelf) (work : Texts → Course A) (next : Texts → A → Course B) (v : A) (w : B)
+    → Keeps before between → (IsTrue before.tells → work before.texts ≡ Done v) → (IsTrue between.tells → next between.texts v ≡ Done w)
+    → IsTrue before.tells → proceed (work before.texts) (next before.texts) ≡ Done w
+done-then before between work next v w keeps done then told =
+    ap (λ c. proceed c (next before.texts)) (done told) ∙ ap (λ texts. next texts v) (sym (same-texts before between keeps)) ∙ then (told-too before between keeps told)
+
+-- ---- reading a file
+
+pub too_long : {A : Type 0} (name text : List ℕ) (room : ℕ) (form : List ℕ → Result A Refusal) (found : Option (List ℕ)) →
+    found ≡ Some text → room < length text → read_within name room form found ≡ course.Refused (refusal_line no_names name (Limit Bytes))
+too_long name text room form found is long =
+    let test : nat_lt room (length text) ≡ true = grind (arith, nat_tests) in
+    ap (read_within name room form) is ∙ ap (λ b. cond b (course.Refused (refusal_line no_names name (Limit Bytes))) (formed name (room - length text) (form text))) test
+
+pub short_enough : {A : Type 0} (name text : List ℕ) (room : ℕ) (form : List ℕ → Result A Refusal) (found : Option (List ℕ)) →
+    found ≡ Some text → length text ≤ room → read_within name room form found ≡ formed name (room - length text) (form text)
+short_enough name text room form found is short =
+    let test : nat_lt room (length text) ≡ false = grind (arith, nat_tests) in
+    ap (read_within name room form) is ∙ ap (λ b. cond b (course.Refused (refusal_line no_names name (Limit Bytes))) (formed name (room - length text) (form text))) test
+
+-- no text was read
+pub textless : {A : Type 0} (before after : Shelf) (name : List ℕ) (room : ℕ) (form : List ℕ → Result A Refusal) (why : Stop)
+    → IsTextless before after name room why → IsUnread before after name (read_file before.texts name room form) why
+textless before after name room form (Refused line) (is, long) = λ told.
+    let found = long told in too_long name found.0 room form (before.texts name) found.1 found.2 ∙ ap course.Refused (sym is)
+textless before after name room form (Fault line) stopped = stopped
+textless before after name room form NoMemory stopped = tt
+
+-- a refusal is the outcome's; want of memory is free
+abbrev pub IsFault : {A : Type 0} → Result A Refusal → Failure → Type 0
+IsFault outcome (failure.Refused refusal) = outcome ≡ Err refusal
+IsFault outcome failure.NoMemory = Unit {0}
+
+-- a text is refused
+pub unformed : {A : Type 0} (before after : Shelf) (name text : List ℕ) (room : ℕ) (form : List ℕ → Result A Refusal) (fault : Failure) (why : Stop)
+    → (IsTrue before.tells → before.texts name ≡ Some text) → length text ≤ room → IsFault (form text) fault → TellsFault no_names name fault why
+    → IsUnread before after name (read_file before.texts name room form) why
+unformed before after name text room form (failure.Refused refusal) (Refused line) found short refused is = λ told.
+    short_enough name text room form (before.texts name) (found told) short ∙ ap (formed name (room - length text)) refused ∙ ap course.Refused (sym is)
+unformed before after name text room form failure.NoMemory (Refused line) found short refused is = absurd is
+unformed before after name text room form (failure.Refused refusal) (Fault line) found short refused is = absurd is
+unformed before after name text room form failure.NoMemory (Fault line) found short refused is = absurd is
+unformed before after name text room form fault NoMemory found short refused is = tt
+
+-- a text has a value
+pub formed-within : {A : Type 0} (texts : Texts) (name text : List ℕ) (room left : ℕ) (form : List ℕ → Result A Refusal) (value : A)
+    → texts name ≡ Some text → length text ≤ room → left ≡ room - length text → form text ≡ Ok value → read_file texts name room form ≡ Done (value, left)
+formed-within texts name text room left form value found short rest ok =
+    short_enough name text room form (texts name) found short ∙ ap (formed name (room - length text)) ok ∙ ap (λ n. Done (value, n)) (sym rest)

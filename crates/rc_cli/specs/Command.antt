@@ -1,29 +1,98 @@
 -- The command lines that are listed.
-use Rattle.std.specs.Prelude.{ℕ, Bool, false, not, ◌&&◌, ◌==◌, List, [], ◌∷◌, Option, Some, None, codes, if◌then◌else◌}
+use Rattle.std.specs.Prelude.{ℕ, Bool, false, not, ◌==◌, ◌&&◌, nat_le, List, [], ◌∷◌, ◌++◌, length, Option, Some, None, codes, if◌then◌else◌}
+use Rattle.std.specs.Fmt.{decimal}
+use Rattle.std.specs.List.{find, list_all, range_with_len}
 use Rattle.std.specs.Str.{bytes_eq}
-use Rattle.rc_cli.specs.declared.command.FileWord.{FileWord}
-use Rattle.rc_cli.specs.declared.command.FileWord.TheVariants.{Rules, Def, Lef}
+use Rattle.rc_cli.specs.declared.command.Task.{Task as KeptTask}
+use Rattle.rc_cli.specs.declared.command.Task.TheVariants as kept
 
--- `extract 1 RULES DEF LEF`, by the names of its files
-pub record Extract : Type 0 where
+-- the files that a design is read from, by their names
+pub record Inputs : Type 0 where
   pub rules : List ℕ
   pub def : List ℕ
-  pub lef : List ℕ
+  pub lefs : List (List ℕ)
+
+-- what is done with the extraction of these files: it is written, or compared with a SPEF file
+pub data Task : Type 0 where
+  Extract : Task
+  Verify : (spef : List ℕ) → Task
+
+pub record Request : Type 0 where
+  pub task : Task
+  pub workers : ℕ
+  pub inputs : Inputs
+
+-- ---- words
 
 -- a file word isn't empty and doesn't begin with a dash
 abbrev pub is_file_word : List ℕ → Bool
 is_file_word [] = false
 is_file_word (first ∷ rest) = not (first == 45)
 
--- what the words ask for; nothing where they have no listed form
-abbrev pub extract_of : List (List ℕ) → Option Extract
-extract_of (command ∷ workers ∷ rules ∷ def ∷ lef ∷ []) =
-    if bytes_eq command (codes "extract") && bytes_eq workers (codes "1") && is_file_word rules && is_file_word def && is_file_word lef
-    then Some (record { rules = rules; def = def; lef = lef }) else None
-extract_of words = None
+-- the number from 1 to most whose plain decimal a word is
+unfoldable pub number_up_to : ℕ → List ℕ → Option ℕ
+number_up_to most word = find (λ number. bytes_eq (decimal number) word) (range_with_len 1 most)
 
--- the name of a file
-abbrev pub file_name : Extract → FileWord → List ℕ
-file_name asked Rules = asked.rules
-file_name asked Def = asked.def
-file_name asked Lef = asked.lef
+-- how many workers there may be, and how many LEF files
+abbrev pub most_workers : ℕ
+most_workers = 64
+
+abbrev pub most_lefs : ℕ
+most_lefs = 64
+
+-- `RULES DEF LEF..`
+abbrev pub inputs_of : List (List ℕ) → Option Inputs
+inputs_of (rules ∷ def ∷ lefs) =
+    if list_all is_file_word (rules ∷ def ∷ lefs) && nat_le 1 (length lefs) && nat_le (length lefs) most_lefs
+    then Some (record { rules = rules; def = def; lefs = lefs }) else None
+inputs_of _ = None
+
+-- ---- commands
+
+-- this task by so many workers over these files, where the words tell both
+abbrev pub request_with : Task → Option ℕ → Option Inputs → Option Request
+request_with task (Some workers) (Some inputs) = Some (record { task = task; workers = workers; inputs = inputs })
+request_with task _ _ = None
+
+-- a task, and the words `W RULES DEF LEF..` without the task's own file
+abbrev pub request_for : Task → List ℕ → List (List ℕ) → Option Request
+request_for task workers files = request_with task (number_up_to most_workers workers) (inputs_of files)
+
+-- `W RULES DEF LEF..`
+abbrev pub extract_of : List (List ℕ) → Option Request
+extract_of (workers ∷ files) = request_for Extract workers files
+extract_of [] = None
+
+-- `W SPEF RULES DEF LEF..`
+abbrev pub verify_of : List (List ℕ) → Option Request
+verify_of (workers ∷ spef ∷ files) = if is_file_word spef then request_for (Verify spef) workers files else None
+verify_of _ = None
+
+-- what the words ask for; nothing where they have no listed form
+unfoldable pub request_of : List (List ℕ) → Option Request
+request_of (command ∷ words) =
+    if bytes_eq command (codes "extract") then extract_of words
+    else (if bytes_eq command (codes "verify") then verify_of words else None)
+request_of [] = None
+
+-- ---- the files of a request
+
+-- the file that the extraction is compared with
+abbrev pub spef_word : Task → Option (List ℕ)
+spef_word Extract = None
+spef_word (Verify spef) = Some spef
+
+-- the task's own file, if it has one
+abbrev pub task_words : Task → List (List ℕ)
+task_words Extract = []
+task_words (Verify spef) = spef ∷ []
+
+-- all files in the order of work: each LEF, the DEF, the rules, and at last the task's own
+abbrev pub file_words : Request → List (List ℕ)
+file_words request = request.inputs.lefs ++ request.inputs.def ∷ request.inputs.rules ∷ task_words request.task
+
+-- ---- what the code keeps
+
+abbrev pub task_seen : KeptTask → Task
+task_seen kept.Extract = Extract
+task_seen (kept.Verify spef) = Verify spef.now

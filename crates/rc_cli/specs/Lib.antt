@@ -1,20 +1,9 @@
+-- the words, the lines on the standard error, and the verdict on a SPEF file
 pub mod Command
-pub mod Cut
-pub mod Numbers
-pub mod Phrases
-pub mod TechForm
-pub mod DesignForm
-pub mod RuleForm
-pub mod Ranges
-pub mod Layout
-pub mod Shapes
-pub mod Rate
-pub mod Parasitics
-pub mod SpefText
+pub mod Lines
+pub mod Verdict
+-- what a run comes to, what it answers, and why its work stops
 pub mod Outcome
 pub mod Answers
 pub mod Work
-pub mod Forms
 pub mod Laws
-pub mod Example
-pub mod Gathered

@@ -1,17 +1,30 @@
--- What a run comes to, from its words and from what the files hold.
-use Rattle.std.specs.Prelude.{ℕ, ◌-◌, ◌^◌, List, [], ◌++◌, Option, Some, None, codes, length, nat_lt, slice_get, if◌then◌else◌}
-use Rattle.std.specs.Option.{option_map_or}
-use Rattle.std.specs.Fmt.{signed_decimal}
-use Rattle.rc_keys.specs.declared.code.Code.TheVariants.{E04, E13, E14}
+-- What a run comes to, from what its words ask for and from what the files hold.
+use Rattle.std.specs.Prelude.{ℕ, ◌-◌, ◌*◌, ◌^◌, Bool, true, false, List, ◌++◌, Option, Some, None, Result, Ok, Err, length, fold, is_some, nat_lt, if◌then◌else◌}
+use Rattle.std.specs.Str.{bytes_eq}
+use Rattle.rc_keys.specs.declared.code.Code.TheVariants.{E08}
 use Rattle.rc_keys.specs.declared.code.Quantity.TheVariants.{Bytes}
-use Rattle.rc_keys.specs.Names.{code_name, quantity_name}
-use Rattle.rc_cli.specs.Command.{Extract}
-use Rattle.rc_cli.specs.TechForm.{Tech, tech_of}
-use Rattle.rc_cli.specs.DesignForm.{design_of}
-use Rattle.rc_cli.specs.RuleForm.{Rules, rules_of}
-use Rattle.rc_cli.specs.Layout.{Layout, Short, linked, first_short}
-use Rattle.rc_cli.specs.Parasitics.{extraction}
-use Rattle.rc_cli.specs.SpefText.{spef_text}
+use Rattle.rc_keys.specs.declared.fault.Refusal.{Refusal}
+use Rattle.rc_keys.specs.declared.fault.Refusal.TheVariants.{At, Limit}
+use Rattle.rc_lef.specs.declared.units.Units.{Units}
+use Rattle.rc_lef.specs.Technology.{Technology, no_technology}
+use Rattle.rc_lef.specs.Rows.{lef_outcome}
+use Rattle.rc_def.specs.declared.design.RawDesign.{RawDesign}
+use Rattle.rc_def.specs.File.{def_outcome}
+use Rattle.rc_rules.specs.Rows.{rules_outcome}
+use Rattle.rc_layout.specs.Layouts.{linked}
+use Rattle.rc_layout.specs.Refusals.{there}
+use Rattle.rc_spef.specs.declared.value.Spef.{Spef}
+use Rattle.rc_spef.specs.Rows.{spef_outcome}
+use Rattle.rc_spef.specs.Text.{spef_text}
+use Rattle.rc_windows.specs.Frames.{window_count}
+use Rattle.rc_engine.specs.Start.{start_refusal, grid_of}
+use Rattle.rc_engine.specs.Extraction.{extraction}
+use Rattle.rc_cli.specs.declared.stages.Drawn.{Drawn}
+use Rattle.rc_cli.specs.declared.stages.Ruled.{Ruled}
+use Rattle.rc_cli.specs.declared.stages.Placed.{Placed}
+use Rattle.rc_cli.specs.Command.{Inputs, Task, Extract, Verify, Request}
+use Rattle.rc_cli.specs.Lines.{Names, no_names, names_of, refusal_line}
+use Rattle.rc_cli.specs.Verdict.{verdict, verdict_text}
 
 -- what the file of a name holds; nothing where there is none
 abbrev pub Texts : Type 0
@@ -29,61 +42,111 @@ proceed (Missing name) next = Missing name
 proceed (Refused line) next = Refused line
 proceed (Done value) next = next value
 
--- the line of a refusal: its code, its place or names, and a line feed
-abbrev pub refusal_line : List ℕ → List ℕ → List ℕ
-refusal_line code place = codes "rcx: " ++ code ++ codes " " ++ place ++ codes "\n"
+-- a value, or the refusal of a file by its line
+abbrev pub settled : {A : Type 0} → Names → List ℕ → Result A Refusal → Course A
+settled names file (Ok value) = Done value
+settled names file (Err refusal) = Refused (refusal_line names file refusal)
 
--- a file that hasn't the reduced form
-abbrev pub form_line : List ℕ → List ℕ
-form_line name = refusal_line (code_name E04) (name ++ codes " 1")
+-- a value that nothing refuses
+abbrev pub unless_refused : {A : Type 0} → Names → List ℕ → Option Refusal → A → Course A
+unless_refused names file None value = Done value
+unless_refused names file (Some refusal) value = Refused (refusal_line names file refusal)
 
--- more bytes than a run may read
-abbrev pub bytes_line : List ℕ
-bytes_line = refusal_line (code_name E14) (quantity_name Bytes)
-
-abbrev pub wire_name : Layout → ℕ → List ℕ
-wire_name layout k = option_map_or (λ wire. wire.name) (slice_get layout.wires k) []
-
--- two nets that meet: their names, the layer, and the corner in units of 1/1000 micron
-abbrev pub short_line : Layout → Short → List ℕ
-short_line layout short =
-    refusal_line (code_name E13) (wire_name layout short.first ++ codes " " ++ wire_name layout short.second ++ codes " " ++ layout.layer
-    ++ codes " " ++ signed_decimal short.corner.x ++ codes " " ++ signed_decimal short.corner.y)
+-- ---- reading a file
 
 -- the most bytes that all files of a run may have
 abbrev pub most_bytes : ℕ
 most_bytes = 2 ^ 30
 
--- what a file's text is read as, and how many bytes the files after it may have
-abbrev pub formed : {A : Type 0} → List ℕ → ℕ → Option A → Course (A × ℕ)
-formed name room None = Refused (form_line name)
-formed name room (Some value) = Done (value, room)
+-- what a text within the room is read as, and how many bytes the files after it may have
+abbrev pub formed : {A : Type 0} → List ℕ → ℕ → Result A Refusal → Course (A × ℕ)
+formed name left outcome = proceed (settled no_names name outcome) (λ value. Done (value, left))
 
-abbrev pub read_within : {A : Type 0} → List ℕ → ℕ → (List ℕ → Option A) → Option (List ℕ) → Course (A × ℕ)
+-- a file is read to its end before its first refused place is looked for, and more bytes than the room are refused
+abbrev pub read_within : {A : Type 0} → List ℕ → ℕ → (List ℕ → Result A Refusal) → Option (List ℕ) → Course (A × ℕ)
 read_within name room form None = Missing name
-read_within name room form (Some text) = if nat_lt room (length text) then Refused bytes_line else formed name (room - length text) (form text)
+read_within name room form (Some text) =
+    if nat_lt room (length text) then Refused (refusal_line no_names name (Limit Bytes))
+    else formed name (room - length text) (form text)
 
--- the files in the order of work: the technology, then the design, then the rules
-unfoldable pub technology : Texts → Extract → Course (Tech × ℕ)
-technology texts asked = read_within asked.lef most_bytes tech_of (texts asked.lef)
+abbrev pub read_file : {A : Type 0} → Texts → List ℕ → ℕ → (List ℕ → Result A Refusal) → Course (A × ℕ)
+read_file texts name room form = read_within name room form (texts name)
 
-unfoldable pub layout : Texts → Extract → Course (Layout × ℕ)
-layout texts asked =
-    proceed (technology texts asked) (λ (tech, room).
-    proceed (read_within asked.def room (design_of tech.layer) (texts asked.def)) (λ (design, room).
-    Done (linked tech design, room)))
+-- ---- the order of work
 
-unfoldable pub inputs : Texts → Extract → Course (Layout × Rules)
-inputs texts asked =
-    proceed (layout texts asked) (λ (layout, room).
-    proceed (read_within asked.rules room (rules_of layout.layer) (texts asked.rules)) (λ (rules, room).
-    Done (layout, rules)))
+-- the LEF files, one after another; each is read over the technology of those before it
+abbrev pub next_lef : Texts → Course (Technology × ℕ) → List ℕ → Course (Technology × ℕ)
+next_lef texts course name = proceed course (λ (tech, room). read_file texts name room (lef_outcome tech))
 
--- a layout without a short is extracted
-abbrev pub extracted : Layout → Rules → Option Short → Course (List ℕ)
-extracted layout rules (Some short) = Refused (short_line layout short)
-extracted layout rules None = Done (spef_text (extraction layout rules))
+unfoldable pub technology : Texts → List (List ℕ) → Course (Technology × ℕ)
+technology texts lefs = fold (next_lef texts) (Done (no_technology, most_bytes)) lefs
 
--- what the words come to over these files: the whole text, the first refusal, or the first file that isn't there
-unfoldable pub outcome : Texts → Extract → Course (List ℕ)
-outcome texts asked = proceed (inputs texts asked) (λ (layout, rules). extracted layout rules (first_short layout))
+-- then the DEF file
+unfoldable pub design : Texts → Inputs → Course Drawn
+design texts inputs =
+    proceed (technology texts inputs.lefs) (λ (tech, room).
+    proceed (read_file texts inputs.def room def_outcome) (λ (design, room).
+    Done (record { tech = tech; design = design; room = room })))
+
+-- a technology without the units of a micron is refused at the UNITS line of the design
+abbrev pub micron : Drawn → Result Units Refusal
+micron drawn = there (At E08 drawn.design.units_line) drawn.tech.units
+
+-- then the rule file
+unfoldable pub ruled : Texts → Inputs → Course Ruled
+ruled texts inputs =
+    proceed (design texts inputs) (λ drawn.
+    proceed (settled no_names inputs.def (micron drawn)) (λ units.
+    proceed (read_file texts inputs.rules drawn.room (rules_outcome units drawn.tech)) (λ (rules, room).
+    Done (record { tech = drawn.tech; design = drawn.design; rules = rules; room = room }))))
+
+-- then the design is linked
+unfoldable pub layout : Texts → Inputs → Course Placed
+layout texts inputs =
+    proceed (ruled texts inputs) (λ ruled.
+    proceed (settled no_names inputs.def (linked ruled.tech ruled.design)) (λ layout.
+    Done (record { layout = layout; rules = ruled.rules; room = ruled.room })))
+
+-- a layout that nothing refuses is extracted: all its layers in use have rules, it keeps the limits, and it has no short
+unfoldable pub extracted : List ℕ → Placed → Course Spef
+extracted def placed =
+    unless_refused (names_of placed.layout) def (start_refusal placed.layout placed.rules) (extraction placed.layout placed.rules)
+
+-- ---- the task
+
+-- what is written, and whether it says that two values differ
+pub record Reply : Type 0 where
+  pub text : List ℕ
+  pub differs : Bool
+
+abbrev pub written : Spef → Reply
+written spef = record { text = spef_text spef; differs = false }
+
+abbrev pub compared : Spef → Spef → Reply
+compared spef file = record { text = verdict_text spef file; differs = is_some (verdict spef file) }
+
+-- the extraction is written, or compared with a file that is read last
+abbrev pub reply : Texts → Task → ℕ → Spef → Course Reply
+reply texts Extract room spef = Done (written spef)
+reply texts (Verify name) room spef = proceed (read_file texts name room spef_outcome) (λ (file, room). Done (compared spef file))
+
+-- what a request comes to over these files: its reply, the first refusal, or the first file that isn't there
+unfoldable pub outcome : Texts → Request → Course Reply
+outcome texts asked =
+    proceed (layout texts asked.inputs) (λ placed.
+    proceed (extracted asked.inputs.def placed) (λ spef.
+    reply texts asked.task placed.room spef))
+
+-- ---- sweeps
+
+-- two for each window of the grid of a layout
+unfoldable pub passes_for : Placed → ℕ
+passes_for placed = 2 * window_count (grid_of placed.layout placed.rules)
+
+-- those of the layout that the files link to
+abbrev pub passes_over : Course Placed → ℕ
+passes_over (Done placed) = passes_for placed
+passes_over _ = 0
+
+abbrev pub passes : Texts → Inputs → ℕ
+passes texts inputs = passes_over (layout texts inputs)

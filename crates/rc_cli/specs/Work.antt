@@ -1,36 +1,54 @@
--- Why the work of a run gives no text.
-use Rattle.std.specs.Prelude.{ℕ, ◌≡◌, ◌<◌, IsTrue, List, Some, length}
+-- Why the work of a run stops, stage by stage.
+use Rattle.std.specs.Prelude.{ℕ, ◌≡◌, ◌<◌, ◌≤◌, IsTrue, List, Option, Some, Contains, length}
 use Rattle.rc_io.specs.Causes.{Rose}
-use Rattle.rc_cli.specs.declared.command.FileWord.{FileWord}
-use Rattle.rc_cli.specs.declared.work.Stop.{Stop}
-use Rattle.rc_cli.specs.declared.work.Stop.TheVariants.{Refused, Fault, NoMemory}
-use Rattle.rc_cli.specs.Command.{Extract, file_name}
-use Rattle.rc_cli.specs.RuleForm.{Rules}
-use Rattle.rc_cli.specs.Layout.{Layout, first_short}
-use Rattle.rc_cli.specs.Outcome.{outcome, extracted, bytes_line}
+use Rattle.rc_keys.specs.declared.code.Quantity.TheVariants.{Bytes}
+use Rattle.rc_keys.specs.declared.fault.Fault.{Fault as Failure}
+use Rattle.rc_keys.specs.declared.fault.Fault.TheVariants as failure
+use Rattle.rc_keys.specs.declared.fault.Refusal.TheVariants.{Limit}
+use Rattle.rc_cli.specs.declared.stop.Stop.{Stop}
+use Rattle.rc_cli.specs.declared.stop.Stop.TheVariants.{Refused, Fault, NoMemory}
+use Rattle.rc_cli.specs.Lines.{Names, no_names, refusal_line, read_fault_line}
+use Rattle.rc_cli.specs.Outcome.{Texts, Course, Missing}
 use Rattle.rc_cli.specs.Outcome as course
-use Rattle.rc_cli.specs.Answers.{Sources, IsReadFault}
+use Rattle.rc_cli.specs.Answers.{Shelf, without}
 
--- the first refusal by its line, or a file that failed, by its word; want of memory has no cause
-abbrev pub HasStopped : Sources → Extract → Stop → Type 0
-HasStopped s asked (Refused line) = IsTrue s.tells → outcome s.texts asked ≡ course.Refused line
-HasStopped s asked (Fault word) = IsReadFault s asked (file_name asked word)
-HasStopped s asked NoMemory = Unit {0}
+-- what a call leaves of the files: they hold and tell what they did, and no count has fallen
+pub record Keeps (before after : Shelf) : Type 0 where
+  pub tells : after.tells ≡ before.tells
+  pub texts : (name : List ℕ) → after.texts name ≡ before.texts name
+  pub later : (name : List ℕ) → before.faults name ≤ after.faults name
 
--- a file wasn't read: it is longer than the room, or it failed
-abbrev pub IsUnread : Sources → List ℕ → FileWord → ℕ → Stop → Type 0
-IsUnread s name word room (Refused line) = (line ≡ bytes_line) × (IsTrue s.tells → (text : List ℕ) × (s.texts name ≡ Some text) × (room < length text))
-IsUnread s name word room (Fault failed) = (failed ≡ word) × Rose (s.faults_before name) (s.faults_after name)
-IsUnread s name word room NoMemory = Unit {0}
+-- why a part of the work stopped, that comes to this over any files: the first refusal by its line; or by its line a file
+-- that failed, among these names, and the work gets to it. Want of memory has no cause
+abbrev pub HasStopped : {A : Type 0} → Shelf → Shelf → List (List ℕ) → (Texts → Course A) → Stop → Type 0
+HasStopped before after names work (Refused line) = IsTrue before.tells → work before.texts ≡ course.Refused line
+HasStopped before after names work (Fault line) =
+    (name : List ℕ) × (line ≡ read_fault_line name) × Contains names name × Rose (before.faults name) (after.faults name)
+    × (IsTrue before.tells → work (without name before.texts) ≡ Missing name)
+HasStopped before after names work NoMemory = Unit {0}
 
--- a refusal by this line, unless there is no memory for it
-abbrev pub IsRefusedBy : List ℕ → Stop → Type 0
-IsRefusedBy expected (Refused line) = line ≡ expected
-IsRefusedBy expected (Fault word) = ⊥
-IsRefusedBy expected NoMemory = Unit {0}
+-- why a file isn't read as a value: the refusal that its reading comes to; or it failed
+abbrev pub IsUnread : {A : Type 0} → Shelf → Shelf → List ℕ → Course A → Stop → Type 0
+IsUnread before after name reading (Refused line) = IsTrue before.tells → reading ≡ course.Refused line
+IsUnread before after name reading (Fault line) = (line ≡ read_fault_line name) × Rose (before.faults name) (after.faults name)
+IsUnread before after name reading NoMemory = Unit {0}
 
--- a layout gives no text: two of its nets meet; want of memory has no cause
-abbrev pub IsUnextracted : Layout → Rules → Stop → Type 0
-IsUnextracted layout rules (Refused line) = extracted layout rules (first_short layout) ≡ course.Refused line
-IsUnextracted layout rules (Fault word) = ⊥
-IsUnextracted layout rules NoMemory = Unit {0}
+-- why no text of a file was read: it is longer than the room; or it failed
+abbrev pub IsTextless : Shelf → Shelf → List ℕ → ℕ → Stop → Type 0
+IsTextless before after name room (Refused line) =
+    (line ≡ refusal_line no_names name (Limit Bytes)) × (IsTrue before.tells → (text : List ℕ) × (before.texts name ≡ Some text) × (room < length text))
+IsTextless before after name room (Fault line) = (line ≡ read_fault_line name) × Rose (before.faults name) (after.faults name)
+IsTextless before after name room NoMemory = Unit {0}
+
+-- what reads no file stops at its refusal alone
+abbrev pub IsRefusedBy : {A : Type 0} → Course A → Stop → Type 0
+IsRefusedBy work (Refused line) = work ≡ course.Refused line
+IsRefusedBy work (Fault line) = ⊥
+IsRefusedBy work NoMemory = Unit {0}
+
+-- a fault, told by the line of its refusal
+abbrev pub TellsFault : Names → List ℕ → Failure → Stop → Type 0
+TellsFault names file (failure.Refused refusal) (Refused line) = line ≡ refusal_line names file refusal
+TellsFault names file failure.NoMemory (Refused line) = ⊥
+TellsFault names file fault (Fault line) = ⊥
+TellsFault names file fault NoMemory = Unit {0}

@@ -1,25 +1,17 @@
-//! The program: what it does with its words, its files and its streams. Begin at `run` in `top`; `work` has the order of work.
+//! The program: what it does with its words, its files and its streams. Begin at `run` in `top`; `stages` has the order of work.
 #![tactic(auto)]
 
 mod command;
-mod design;
-mod gathered;
+mod extracting;
 mod laws;
-mod layout;
 mod line;
-mod number;
-mod parasitics;
-mod rate;
-mod rules;
-mod spef;
-mod tech;
+mod reading;
+mod stages;
+mod stop;
 mod top;
-mod words;
+mod verdict;
 mod work;
 
-pub use laws::{
-    bounds_hold_metal, couplings_are_mutual, design_is_read, example_is_worked, nodes_are_ends,
-    rules_are_read, shorts_are_first, technology_is_read,
-};
+pub use laws::workers_change_nothing;
 pub use line::{tell_no_memory, tell_usage};
 pub use top::run;

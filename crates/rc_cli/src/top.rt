@@ -1,24 +1,43 @@
 //! The top call: what a run answers and writes.
 
-ghost use Rattle.std.specs.Prelude.{◌≡◌, ◌⊎◌, ◌<◌, List, ℕ, Option, Some, None, map, IsTrue};
+ghost use Rattle.std.specs.Prelude.{◌≡◌, ◌⊎◌, ◌<◌, ◌≤◌, ◌+◌, ◌^◌, List, ℕ, Bool, true, false, Option, Some, None, map, IsTrue};
 ghost use Rattle.std.specs.String.{string_bytes};
+ghost use Rattle.rc_io.specs.Bytes.{grown, GrewByPrefix};
 ghost use Rattle.rc_io.specs.Causes.{Rose};
-ghost use Rattle.rc_cli.specs.Command.{Extract as Asked, extract_of};
-ghost use Rattle.rc_cli.specs.Outcome.{Course, Missing, Refused, Done, outcome};
-ghost use Rattle.rc_cli.specs.Answers.{sinks, sources, OutKept, ErrKept, WroteText, WroteLine, NoFileFailed, IsTold, IsReadFault, ComesTo, IsCutText, IsCutLine, usage_line, no_memory_line, read_fault_line};
+ghost use Rattle.rc_cli.specs.Command.{Request as Asked, request_of};
+ghost use Rattle.rc_cli.specs.Lines.{usage_line, no_memory_line, read_fault_line};
+ghost use Rattle.rc_cli.specs.Outcome.{Course, Missing, Refused, Done, Reply as Replied, outcome, passes};
+ghost use Rattle.rc_cli.specs.Answers.{shelf, sinks, OutKept, ErrKept, WroteText, WroteLine, NoFileFailed, IsTold, IsReadFault, IsVerify, ComesTo, IsCutText, IsCutLine, reply_status};
 
-use crate::command::Extract;
-use crate::line::{read_fault_line, tell, tell_no_memory, tell_usage};
-use crate::work::{Stop, work};
-use rc_fixed::NoMemory;
+use crate::command::Request;
+use crate::line::{tell, tell_no_memory, tell_usage};
+use crate::stop::Stop;
+use crate::work::{Reply, work};
 use rc_io::{Files, Sink, WriteFault, write_all};
+use rc_sweep::Meter;
+use rc_windows::Gate;
 use std::alloc::Global;
 use std::thread::Threads;
 
+/// Writes a reply, and answers the status: 6 where it says that two values differ, 0 where not, 4 where the sink failed.
+fn tell_reply<O: Sink>(out: &mut O, reply: &Reply) -> u8
+    ensures status { (result ≡ reply_status reply.now) ⊎ (result ≡ 4) }
+    ensures whole { (result ≡ 0) ⊎ (result ≡ 6) → (result ≡ reply_status reply.now) × (O.written out.new ≡ grown (O.written out.old) reply.now.text) }
+    ensures prefix { GrewByPrefix (O.written out.old) (O.written out.new) reply.now.text }
+    ensures fault { result ≡ 4 → Rose (O.faults out.old) (O.faults out.new) }
+{
+    match write_all(out, reply.text()) {
+        Ok(()) => { if reply.differs() { 6 } else { 0 } }
+        Err(WriteFault) => 4,
+    }
+}
+
 /// Does all that the program does, and answers its status.
 ///
-/// `words` are those after the program's name. `extract 1 RULES DEF LEF` writes the SPEF text of the design to `out`;
-/// no other words are listed. The files are read in the order of work: the LEF, the DEF, the rules.
+/// `words` are those after the program's name. `extract W RULES DEF LEF..` writes the SPEF text of the design to `out`, and
+/// `verify W SPEF RULES DEF LEF..` one line, `same N` for N nets or `differs NAME`; no other words are listed. W workers sweep.
+/// The files are read in the order of work: each LEF, the DEF, the rules, and at last the SPEF file. Of the meter two passes are
+/// drawn for each window of the layout's grid.
 ///
 /// # Statuses
 ///
@@ -28,75 +47,85 @@ use std::thread::Threads;
 /// * 3: a file of the words failed. `err` gets `rcx: read fault NAME`.
 /// * 4: `out` or `err` failed.
 /// * 5: memory ran out. `err` gets `rcx: no memory`.
+/// * 6: all was done, and some net differs.
 ///
-/// Nothing is written to `out` but at 0 and 4.
-pub fn run<R: Threads + Sync, F: Files, O: Sink, E: Sink>(
-    _rt: &R,
+/// Nothing is written to `out` but at 0, 4 and 6.
+pub fn run<R: Threads + Sync, F: Files, O: Sink, E: Sink, M: Meter, G: Gate>(
+    rt: &R,
     alloc: Global,
     words: &[String],
     files: &mut F,
     out: &mut O,
     err: &mut E,
+    meter: &mut M,
+    gate: &G,
 ) -> u8
-    ensures statuses { result < 6 }
+    requires { M.drawn meter.old ≤ 2 ^ 62 }
+    ensures statuses { result < 7 }
 
     // 1: the words have no listed form.
-    ensures usage { result ≡ 1 → (extract_of (map string_bytes words.now) ≡ None)
+    ensures usage { result ≡ 1 → (request_of (map string_bytes words.now) ≡ None)
         × WroteLine (sinks (O.written out.old) (O.written out.new) (E.written err.old) (E.written err.new)) usage_line }
-    ensures listed { extract_of (map string_bytes words.now) ≡ None → (result ≡ 1) ⊎ (result ≡ 4) }
+    ensures listed { request_of (map string_bytes words.now) ≡ None → (result ≡ 1) ⊎ (result ≡ 4) }
 
-    // 0: all was done. Over files that tell, the text is the one that they come to.
+    // 0: all was done. Over files that tell, the text is the one that they come to, and it says of no two values that they differ.
     ensures done { result ≡ 0 → (text : List ℕ)
-        × ComesTo (sources (F.tells files.old) (F.text files.old) (F.faults files.old) (F.faults files.new)) (map string_bytes words.now) (Done text)
+        × ComesTo (shelf (F.tells files.old) (F.text files.old) (F.faults files.old)) (map string_bytes words.now) (Done (record { text = text; differs = false }))
+        × WroteText (sinks (O.written out.old) (O.written out.new) (E.written err.old) (E.written err.new)) text }
+
+    // 6: a comparison was asked for. Over files that tell, the two values differ, and the text is the one that they come to.
+    ensures differs { result ≡ 6 → (text : List ℕ)
+        × IsVerify (map string_bytes words.now)
+        × ComesTo (shelf (F.tells files.old) (F.text files.old) (F.faults files.old)) (map string_bytes words.now) (Done (record { text = text; differs = true }))
         × WroteText (sinks (O.written out.old) (O.written out.new) (E.written err.old) (E.written err.new)) text }
 
     // 2: the first refusal. Over files that tell, the line is the one that they come to.
     ensures refused { result ≡ 2 → (line : List ℕ)
-        × ComesTo (sources (F.tells files.old) (F.text files.old) (F.faults files.old) (F.faults files.new)) (map string_bytes words.now) (Refused line)
+        × ComesTo (shelf (F.tells files.old) (F.text files.old) (F.faults files.old)) (map string_bytes words.now) (Refused line)
         × WroteLine (sinks (O.written out.old) (O.written out.new) (E.written err.old) (E.written err.new)) line }
 
     // 3: a file of the words failed, and nothing before it is missing or refused.
     ensures read_fault { result ≡ 3 → (asked : Asked) × (name : List ℕ)
-        × (extract_of (map string_bytes words.now) ≡ Some asked)
-        × IsReadFault (sources (F.tells files.old) (F.text files.old) (F.faults files.old) (F.faults files.new)) asked name
+        × (request_of (map string_bytes words.now) ≡ Some asked)
+        × IsReadFault (shelf (F.tells files.old) (F.text files.old) (F.faults files.old)) (shelf (F.tells files.new) (F.text files.new) (F.faults files.new)) asked name
         × WroteLine (sinks (O.written out.old) (O.written out.new) (E.written err.old) (E.written err.new)) (read_fault_line name) }
 
     // 4: a sink failed, after a front of the very text, or of a line that has its cause.
     ensures write_fault { result ≡ 4
-        → IsCutText (sources (F.tells files.old) (F.text files.old) (F.faults files.old) (F.faults files.new))
-        (sinks (O.written out.old) (O.written out.new) (E.written err.old) (E.written err.new)) (map string_bytes words.now) (O.faults out.old) (O.faults out.new)
-        ⊎ IsCutLine (sources (F.tells files.old) (F.text files.old) (F.faults files.old) (F.faults files.new))
-        (sinks (O.written out.old) (O.written out.new) (E.written err.old) (E.written err.new)) (map string_bytes words.now) (E.faults err.old) (E.faults err.new) }
+        → IsCutText (shelf (F.tells files.old) (F.text files.old) (F.faults files.old)) (sinks (O.written out.old) (O.written out.new) (E.written err.old) (E.written err.new)) (map string_bytes words.now) (O.faults out.old) (O.faults out.new)
+        ⊎ IsCutLine (shelf (F.tells files.old) (F.text files.old) (F.faults files.old)) (shelf (F.tells files.new) (F.text files.new) (F.faults files.new)) (sinks (O.written out.old) (O.written out.new) (E.written err.old) (E.written err.new)) (map string_bytes words.now) (E.faults err.old) (E.faults err.new) }
 
     // 5: memory ran out.
     ensures memory { result ≡ 5
         → WroteLine (sinks (O.written out.old) (O.written out.new) (E.written err.old) (E.written err.new)) no_memory_line }
 
-    // For every sink: nothing is written to out but at 0 and 4, nothing to err at 0, and at 4 to one of both alone.
+    // For every sink: nothing is written to out but at 0, 4 and 6, nothing to err at 0 and 6, and at 4 to one of both alone.
     ensures out_kept { (result ≡ 1) ⊎ (result ≡ 2) ⊎ (result ≡ 3) ⊎ (result ≡ 5) → out.new ≡ out.old }
-    ensures err_kept { result ≡ 0 → err.new ≡ err.old }
+    ensures err_kept { (result ≡ 0) ⊎ (result ≡ 6) → err.new ≡ err.old }
     ensures one_sink { result ≡ 4 → (out.new ≡ out.old) ⊎ (err.new ≡ err.old) }
 
     // What the words and the files come to is told, unless a file or a sink fails or memory runs out.
-    ensures complete { (asked : Asked) → extract_of (map string_bytes words.now) ≡ Some asked → IsTrue (F.tells files.old)
-        → NoFileFailed (sources (F.tells files.old) (F.text files.old) (F.faults files.old) (F.faults files.new)) asked
+    ensures complete { (asked : Asked) → request_of (map string_bytes words.now) ≡ Some asked → IsTrue (F.tells files.old)
+        → NoFileFailed (shelf (F.tells files.old) (F.text files.old) (F.faults files.old)) (shelf (F.tells files.new) (F.text files.new) (F.faults files.new)) asked
         → ¬ Rose (O.faults out.old) (O.faults out.new) → ¬ Rose (E.faults err.old) (E.faults err.new)
         → IsTold (sinks (O.written out.old) (O.written out.new) (E.written err.old) (E.written err.new)) (outcome (F.text files.old) asked) result
         ⊎ (result ≡ 5) }
+
+    // Two passes for each window are drawn where all was done, and in no case more.
+    ensures passes { (result ≡ 0) ⊎ (result ≡ 6) → (asked : Asked) → request_of (map string_bytes words.now) ≡ Some asked → IsTrue (F.tells files.old)
+        → M.drawn meter.new ≡ M.drawn meter.old + passes (F.text files.old) asked.inputs }
+    ensures spent { (asked : Asked) → request_of (map string_bytes words.now) ≡ Some asked → IsTrue (F.tells files.old)
+        → M.drawn meter.new ≤ M.drawn meter.old + passes (F.text files.old) asked.inputs }
+    ensures least { M.drawn meter.old ≤ M.drawn meter.new }
+    ensures unlisted { request_of (map string_bytes words.now) ≡ None → M.drawn meter.new ≡ M.drawn meter.old }
 {
-    let Some(asked) = Extract::from_words(words) else {
+    let Some(asked) = Request::from_words(words) else {
         return tell_usage(err);
     };
-    match work(alloc, files, &asked) {
-        Ok(gathered) => match write_all(out, gathered.bytes()) {
-            Ok(()) => 0,
-            Err(WriteFault) => 4,
-        },
+    match work(rt, alloc, &asked, files, meter, gate) {
+        Ok(reply) => tell_reply(out, &reply),
         Err(Stop::Refused(line)) => tell(err, 2, line.bytes()),
-        Err(Stop::Fault(word)) => match read_fault_line(alloc, asked.name(word)) {
-            Ok(line) => tell(err, 3, line.bytes()),
-            Err(NoMemory) => tell_no_memory(err),
-        },
+        Err(Stop::Fault(line)) => tell(err, 3, line.bytes()),
         Err(Stop::NoMemory) => tell_no_memory(err),
     }
 }

@@ -1,194 +1,159 @@
-//! The order of work: reads the files, refuses them (E04, E13, E14), or gathers the text.
+//! The work of a run: from its files to its reply.
 
-ghost use Rattle.std.specs.Prelude.{◌≡◌, ◌≤◌, ◌<◌, ◌^◌, List as Bytes, ℕ, Some, slice_get, [], length, IsTrue, IfOk, IfErr};
-ghost use Rattle.rc_cli.specs.Outcome.{Done, outcome, extracted, bytes_line as bytes_line_of, form_line as form_line_of, short_line as short_line_of};
-ghost use Rattle.std.specs.Option.{option_map_or};
-ghost use Rattle.rc_cli.specs.Ranges.{IsLength};
-ghost use Rattle.rc_cli.specs.Parasitics.{extraction};
-ghost use Rattle.rc_cli.specs.SpefText.{spef_text};
-ghost use Rattle.rc_cli.specs.Layout.{linked, first_short as first_short_of};
-ghost use Rattle.rc_cli.specs.Answers.{sources};
-ghost use Rattle.rc_cli.specs.Work.{HasStopped, IsUnread, IsRefusedBy, IsUnextracted};
-ghost use Rattle.rc_cli.specs.declared.work.Stop.TheVariants as stop;
+ghost use Rattle.std.specs.Prelude.{◌≡◌, ◌≤◌, ◌+◌, ◌^◌, List as Bytes, ℕ, IsTrue, IfOk, IfErr, Some, None};
+ghost use Rattle.std.specs.Option.{option_copied};
+ghost use Rattle.rc_spef.specs.Text.{spef_text};
+ghost use Rattle.rc_cli.specs.Command.{Task, file_words, task_words, spef_word};
+ghost use Rattle.rc_cli.specs.Outcome.{Done, outcome, reply as reply_of, written as written_of, compared as compared_of, passes};
+ghost use Rattle.rc_cli.specs.Answers.{shelf};
+ghost use Rattle.rc_cli.specs.Work.{Keeps, HasStopped};
 
-use crate::command::{Extract, FileWord};
-use crate::design::{Design, Wire};
-use crate::gathered::extract;
-use crate::layout::{Short, bounds, first_short, tiles};
-use crate::line::{bytes_line, form_line, short_line};
-use crate::rules::Rules;
-use crate::spef::write;
-use crate::tech::Tech;
-use rc_fixed::{List, NoMemory, Text};
-use rc_io::{Files, Gather, ReadEnd, read_whole};
+use crate::command::Request;
+use crate::extracting::extracted;
+use crate::reading::read_spef;
+use crate::stages::place;
+use crate::stop::Stop;
+use crate::verdict::{Verdict, verify};
+use rc_fixed::NoMemory;
+use rc_io::{Files, Gather, write_all};
+use rc_spef::{Spef, text};
+use rc_sweep::Meter;
+use rc_windows::Gate;
 use std::alloc::Global;
+use std::marker::Model;
+use std::thread::Threads;
 
-/// Why the work gives no text.
-#[derive(Debug, Drop)]
-pub enum Stop {
-    /// The first refusal, by its line.
-    Refused(Text),
-    /// A file of the words failed.
-    Fault(FileWord),
-    /// Memory ran out.
-    NoMemory,
+/// What a run writes, and whether that says that two values differ.
+#[derive(Drop)]
+pub struct Reply {
+    text: Gather,
+    differs: bool,
 }
 
-impl From<NoMemory> for Stop {
-    ghost from_gives = { λ _ answer. answer ≡ stop.NoMemory };
+impl Model for Reply {
+    ghost use Rattle.rc_cli.specs.Outcome.{Reply};
 
-    fn from(_: NoMemory) -> Self {
-        Stop::NoMemory
+    ghost Value = { Reply };
+
+    ghost view = { λ reply. record { text = reply.text.bytes; differs = reply.differs } };
+}
+
+impl Reply {
+    /// The text.
+    pub fn text(&self) -> &[u8]
+        ensures { result.now ≡ self.now.text }
+    {
+        self.text.bytes()
+    }
+
+    /// Whether the text says that two values differ.
+    pub fn differs(&self) -> bool
+        ensures { result ≡ self.now.differs }
+    {
+        self.differs
     }
 }
 
-/// The most bytes that all files of a run may have.
-const MOST_BYTES: u64 = 1 << 30;
+/// Lets a value go.
+fn discard<T: Drop>(_value: T) {}
 
-/// E14: the refusal of more bytes than a run may read.
-fn refused_bytes(alloc: Global) -> Stop
-    ensures { IsRefusedBy bytes_line_of result }
+/// The extraction is written.
+fn written(alloc: Global, spef: &Spef) -> Result<Reply, NoMemory>
+    ensures { IfOk result (λ reply. reply ≡ written_of spef.now) }
 {
-    match bytes_line(alloc) {
-        Ok(line) => Stop::Refused(line),
-        Err(NoMemory) => Stop::NoMemory,
-    }
+    let mut gathered = Gather::new(alloc);
+    let Ok(()) = text(spef, &mut gathered) else {
+        return Err(NoMemory);
+    };
+    Ok(Reply {
+        text: gathered,
+        differs: false,
+    })
 }
 
-/// E04: the refusal of a file that hasn't the reduced form.
-fn refused_form(alloc: Global, name: &str) -> Stop
-    ensures { IsRefusedBy (form_line_of name.now) result }
+/// The extraction is compared with a SPEF file.
+fn compared(alloc: Global, spef: &Spef, file: &Spef) -> Result<Reply, NoMemory>
+    ensures { IfOk result (λ reply. reply ≡ compared_of spef.now file.now) }
 {
-    match form_line(alloc, name) {
-        Ok(line) => Stop::Refused(line),
-        Err(NoMemory) => Stop::NoMemory,
-    }
+    let told = verify(alloc, spef, file)?;
+    let mut gathered = Gather::new(alloc);
+    let Ok(()) = write_all(&mut gathered, told.text.bytes()) else {
+        return Err(NoMemory);
+    };
+    let differs = match told.verdict {
+        Verdict::Same => false,
+        Verdict::Differs => true,
+    };
+    Ok(Reply {
+        text: gathered,
+        differs,
+    })
 }
 
-/// Reads a file of the words whole, at most `room` bytes.
-fn read_text<F: Files>(
+/// The reply of a task, from the extraction and the task's own file.
+fn answer<F: Files>(
     alloc: Global,
     files: &mut F,
-    name: &str,
-    word: FileWord,
+    asked: &Request<'_>,
     room: u64,
-) -> Result<List<u8>, Stop>
+    spef: &Spef,
+) -> Result<Reply, Stop>
     requires { room ≤ 2 ^ 30 }
-    ensures tells { F.tells files.new ≡ F.tells files.old }
-    ensures same { (n : Bytes ℕ) → F.text files.new n ≡ F.text files.old n }
-    ensures later { (n : Bytes ℕ) → F.faults files.old n ≤ F.faults files.new n }
-    ensures short { IfOk result (λ bytes. length bytes ≤ room) }
-    ensures whole { IfOk result (λ bytes. IsTrue (F.tells files.old) → F.text files.old name.now ≡ Some bytes) }
-    ensures unread { IfErr result (λ why. IsUnread (sources (F.tells files.old) (F.text files.old) (F.faults files.old) (F.faults files.new)) name.now word room why) }
+    ensures keeps { Keeps (shelf (F.tells files.old) (F.text files.old) (F.faults files.old)) (shelf (F.tells files.new) (F.text files.new) (F.faults files.new)) }
+    ensures done { IfOk result (λ reply. IsTrue (F.tells files.old) → reply_of (F.text files.old) asked.now.task room spef.now ≡ Done reply) }
+    ensures stopped { IfErr result (HasStopped (shelf (F.tells files.old) (F.text files.old) (F.faults files.old)) (shelf (F.tells files.new) (F.text files.new) (F.faults files.new))
+        (file_words asked.now) (λ texts. reply_of texts asked.now.task room spef.now)) }
 {
-    match read_whole(alloc, files, name, room) {
-        Ok(bytes) => Ok(bytes),
-        Err(ReadEnd::Fault) => Err(Stop::Fault(word)),
-        Err(ReadEnd::Long) => Err(refused_bytes(alloc)),
-        Err(ReadEnd::NoMemory) => Err(Stop::NoMemory),
-    }
-}
-
-/// The name of a net by its number, nothing where there is no such net.
-fn name_of<'a>(wires: &[Wire<'a>], number: u32) -> &'a [u8]
-    ensures { result.now ≡ option_map_or (λ wire. wire.name) (slice_get wires.now number) [] }
-{
-    match wires.get(number as usize) {
-        Some(wire) => wire.name(),
-        None => b"",
-    }
-}
-
-/// E13: the refusal of two nets that meet.
-fn refused_short(alloc: Global, tech: &Tech<'_>, design: &Design<'_>, short: &Short) -> Stop
-    ensures { IsRefusedBy (short_line_of (linked tech.now design.now) short.now) result }
-{
-    let first = name_of(design.wires(), short.first());
-    let second = name_of(design.wires(), short.second());
-    match short_line(alloc, first, second, tech.layer(), short.corner()) {
-        Ok(line) => Stop::Refused(line),
-        Err(NoMemory) => Stop::NoMemory,
-    }
-}
-
-/// Gathers the text of a layout without shorts.
-fn text_of(
-    alloc: Global,
-    tech: &Tech<'_>,
-    design: &Design<'_>,
-    rules: &Rules,
-) -> Result<Gather, NoMemory>
-    requires width { IsLength tech.now.width }
-    requires few { length design.now.wires ≤ 16 }
-    ensures { IfOk result (λ gathered. gathered.bytes ≡ spef_text (extraction (linked tech.now design.now) rules.now)) }
-{
-    let tiles = tiles(alloc, tech.width(), design.wires())?;
-    let area = bounds(tech.width(), design.wires());
-    let spef = extract(alloc, tech, design, rules, tiles.items(), &area)?;
-    write(alloc, &spef)
-}
-
-/// What a layout comes to by rules: its gathered text, or the refusal of its first short.
-fn finish(
-    alloc: Global,
-    tech: &Tech<'_>,
-    design: &Design<'_>,
-    rules: &Rules,
-) -> Result<Gather, Stop>
-    requires width { IsLength tech.now.width }
-    requires few { length design.now.wires ≤ 16 }
-    ensures text { IfOk result (λ gathered. extracted (linked tech.now design.now) rules.now (first_short_of (linked tech.now design.now)) ≡ Done gathered.bytes) }
-    ensures stopped { IfErr result (IsUnextracted (linked tech.now design.now) rules.now) }
-{
-    if let Some(short) = first_short(tech.width(), design.wires()) {
-        return Err(refused_short(alloc, tech, design, &short));
-    }
-    match text_of(alloc, tech, design, rules) {
-        Ok(gathered) => Ok(gathered),
+    let Some(name) = asked.spef() else {
+        return match written(alloc, spef) {
+            Ok(reply) => Ok(reply),
+            Err(NoMemory) => Err(Stop::NoMemory),
+        };
+    };
+    let (file, _left) = match read_spef(alloc, files, name, room) {
+        Ok(read) => read,
+        Err(why) => return Err(why),
+    };
+    let verdict = compared(alloc, spef, &file);
+    discard(file);
+    match verdict {
+        Ok(reply) => Ok(reply),
         Err(NoMemory) => Err(Stop::NoMemory),
     }
 }
 
-/// Reads the files in the order of work, and gathers the text that they come to.
+/// Does the work of a request: reads its files in the order of work, extracts the layout, and gathers the reply. Two passes are
+/// drawn for each window of the layout's grid.
 ///
 /// # Errors
 ///
-/// Why there is no text: the first refusal, the word of a file that failed, or want of memory.
-pub fn work<F: Files>(alloc: Global, files: &mut F, asked: &Extract<'_>) -> Result<Gather, Stop>
-    ensures text { IfOk result (λ gathered. IsTrue (F.tells files.old) → outcome (F.text files.old) asked.now ≡ Done gathered.bytes) }
-    ensures stopped { IfErr result (λ why. HasStopped (sources (F.tells files.old) (F.text files.old) (F.faults files.old) (F.faults files.new)) asked.now why) }
+/// Why there is no reply: the first refusal, a file that failed, or want of memory.
+pub fn work<R: Threads + Sync, F: Files, M: Meter, G: Gate>(
+    rt: &R,
+    alloc: Global,
+    asked: &Request<'_>,
+    files: &mut F,
+    meter: &mut M,
+    gate: &G,
+) -> Result<Reply, Stop>
+    requires { M.drawn meter.old ≤ 2 ^ 62 }
+    ensures done { IfOk result (λ reply. IsTrue (F.tells files.old) → outcome (F.text files.old) asked.now ≡ Done reply) }
+    ensures stopped { IfErr result (HasStopped (shelf (F.tells files.old) (F.text files.old) (F.faults files.old)) (shelf (F.tells files.new) (F.text files.new) (F.faults files.new))
+        (file_words asked.now) (λ texts. outcome texts asked.now)) }
+    ensures passes { IfOk result (λ _. IsTrue (F.tells files.old) → M.drawn meter.new ≡ M.drawn meter.old + passes (F.text files.old) asked.now.inputs) }
+    ensures least { M.drawn meter.old ≤ M.drawn meter.new }
+    ensures spent { IsTrue (F.tells files.old) → M.drawn meter.new ≤ M.drawn meter.old + passes (F.text files.old) asked.now.inputs }
 {
-    let name = asked.name(FileWord::Lef);
-    let lef = match read_text(alloc, files, name, FileWord::Lef, MOST_BYTES) {
-        Ok(text) => text,
+    let placed = match place(alloc, files, asked) {
+        Ok(placed) => placed,
         Err(why) => return Err(why),
     };
-    let Some(tech) = Tech::read(lef.items()) else {
-        return Err(refused_form(alloc, name));
-    };
-    let room = MOST_BYTES - lef.len() as u64;
-
-    let name = asked.name(FileWord::Def);
-    let def = match read_text(alloc, files, name, FileWord::Def, room) {
-        Ok(text) => text,
+    let room = placed.room;
+    let spef = match extracted(rt, alloc, asked.workers(), asked.def(), placed, meter, gate) {
+        Ok(spef) => spef,
         Err(why) => return Err(why),
     };
-    let design = match Design::read(alloc, tech.layer(), def.items()) {
-        Ok(Some(design)) => design,
-        Ok(None) => return Err(refused_form(alloc, name)),
-        Err(NoMemory) => return Err(Stop::NoMemory),
-    };
-    let room = room - def.len() as u64;
-
-    let name = asked.name(FileWord::Rules);
-    let rules = match read_text(alloc, files, name, FileWord::Rules, room) {
-        Ok(text) => text,
-        Err(why) => return Err(why),
-    };
-    let rules = match Rules::read(alloc, tech.layer(), rules.items()) {
-        Ok(Some(rules)) => rules,
-        Ok(None) => return Err(refused_form(alloc, name)),
-        Err(NoMemory) => return Err(Stop::NoMemory),
-    };
-    finish(alloc, &tech, &design, &rules)
+    let answered = answer(alloc, files, asked, room, &spef);
+    discard(spef);
+    answered
 }

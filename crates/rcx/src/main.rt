@@ -3,6 +3,8 @@
 
 use rc_cli::{run, tell_no_memory, tell_usage};
 use rc_io::{RealFiles, RealSink};
+use rc_sweep::CountMeter;
+use rc_windows::FreeGate;
 use std::process::ExitCode;
 use std::rt::Env;
 use std::{env, io};
@@ -26,6 +28,8 @@ fn main(rt: HostRuntime) -> ExitCode {
             &mut RealFiles::new(&rt),
             &mut RealSink::new(rt.stdout()),
             &mut err,
+            &mut CountMeter::new(),
+            &FreeGate,
         ),
         Err(error) if error.kind() == io::ErrorKind::OutOfMemory => tell_no_memory(&mut err),
         Err(_) => tell_usage(&mut err),

@@ -1,0 +1,155 @@
+-- From a layout to the reply: what refuses it, what is read last, and what all comes to.
+use Rattle.std.proofs.Common.{◌≡◌, ◌≤◌, ◌+◌, ◌*◌, ◌++◌, ◌∷◌, [], ℕ, List, ap, ◌∙◌, refl, sym, subst, arith}
+use Rattle.std.specs.Prelude.{IsTrue, Contains, Option, Some, None, Result, Ok, Err, IfOk, IfErr}
+use Rattle.std.proofs.lemmas.List.Elements.{Contains-append_right}
+use Rattle.rc_keys.specs.declared.fault.Fault.{Fault as Failure}
+use Rattle.rc_keys.specs.declared.fault.Fault.TheVariants as failure
+use Rattle.rc_keys.specs.declared.fault.Refusal.{Refusal}
+use Rattle.rc_rules.specs.RuleFile.{RuleFile}
+use Rattle.rc_layout.specs.Layouts.{Wired}
+use Rattle.rc_spef.specs.declared.value.Spef.{Spef}
+use Rattle.rc_spef.specs.Rows.{spef_outcome}
+use Rattle.rc_windows.specs.Frames.{window_count}
+use Rattle.rc_engine.specs.Start.{start_refusal, grid_of, IsStartFault}
+use Rattle.rc_engine.specs.Extraction.{extraction}
+use Rattle.rc_cli.specs.declared.stages.Placed.{Placed}
+use Rattle.rc_cli.specs.declared.stop.Stop.{Stop}
+use Rattle.rc_cli.specs.declared.stop.Stop.TheVariants.{Refused, Fault, NoMemory}
+use Rattle.rc_cli.specs.Command.{Inputs, Task, Extract, Verify, Request, spef_word, task_words, file_words}
+use Rattle.rc_cli.specs.Lines.{names_of}
+use Rattle.rc_cli.specs.Outcome as course
+use Rattle.rc_cli.specs.Outcome.{Texts, Course, Done, Reply, proceed, unless_refused, read_file, layout, extracted, written, compared, reply, outcome, passes_for}
+use Rattle.rc_cli.specs.Answers.{Shelf}
+use Rattle.rc_cli.specs.Work.{Keeps, HasStopped, IsUnread, IsRefusedBy, TellsFault}
+use Rattle.rc_cli.proofs.Courses.{stops-first, stops-later, stops-file, stops-refused, done-then}
+use Rattle.rc_cli.proofs.Orders.{orderly-layout}
+
+-- ---- the extraction
+
+start-refuses-it : (def : List ℕ) (placed : Placed) (fault : Failure) (why : Stop) → IsStartFault placed.layout placed.rules fault → TellsFault (names_of placed.layout) def fault why
+    → IsRefusedBy (extracted def placed) why
+unfolding extracted
+start-refuses-it def placed (failure.Refused refusal) (Refused line) refused is =
+    ap (λ o. unless_refused (names_of placed.layout) def o (extraction placed.layout placed.rules)) refused ∙ ap course.Refused (sym is)
+start-refuses-it def placed failure.NoMemory (Refused line) refused is = absurd is
+start-refuses-it def placed (failure.Refused refusal) (Fault line) refused is = absurd is
+start-refuses-it def placed failure.NoMemory (Fault line) refused is = absurd is
+start-refuses-it def placed fault NoMemory refused is = tt
+
+pub start-refuses : (def : List ℕ) (placed : Placed) (back : Wired) (fault : Failure) (why : Stop) → back ≡ placed.layout → IsStartFault placed.layout placed.rules fault
+    → TellsFault (names_of back) def fault why → IsRefusedBy (extracted def placed) why
+start-refuses def placed back fault why same refused tells =
+    start-refuses-it def placed fault why refused (subst (λ (w : Wired). TellsFault (names_of w) def fault why) same tells)
+
+pub start-accepts : (def : List ℕ) (placed : Placed) → start_refusal placed.layout placed.rules ≡ None → extracted def placed ≡ Done (extraction placed.layout placed.rules)
+unfolding extracted
+start-accepts def placed none = ap (λ o. unless_refused (names_of placed.layout) def o (extraction placed.layout placed.rules)) none
+
+-- ---- the task's own file
+
+task-word : (task : Task) (name : List ℕ) → spef_word task ≡ Some name → Contains (task_words task) name
+task-word Extract name is = cc
+task-word (Verify spef) name is = let same : spef ≡ name = cc in (0, omega arith, same)
+
+spef-among : (asked : Request) (name : List ℕ) → spef_word asked.task ≡ Some name → Contains (file_words asked) name
+spef-among asked name is =
+    Contains-append_right asked.inputs.lefs (asked.inputs.def ∷ asked.inputs.rules ∷ task_words asked.task) name
+    (Contains-append_right (asked.inputs.def ∷ asked.inputs.rules ∷ []) (task_words asked.task) name (task-word asked.task name is))
+
+-- the comparison with a file
+abbrev pub comparing : Texts → List ℕ → ℕ → Spef → Course Reply
+comparing texts name room spef = proceed (read_file texts name room spef_outcome) (λ read. Done (compared spef read.0))
+
+verifies : (task : Task) (name : List ℕ) → spef_word task ≡ Some name → task ≡ Verify name
+verifies Extract name is = cc
+verifies (Verify spef) name is = let same : spef ≡ name = cc in ap Verify same
+
+pub reply-stops : (before after : Shelf) (asked : Request) (name : List ℕ) (room : ℕ) (spef : Spef) (why : Stop) → Some name ≡ spef_word asked.task
+    → IsUnread before after name (read_file before.texts name room spef_outcome) why → HasStopped before after (file_words asked) (λ texts. reply texts asked.task room spef) why
+reply-stops before after asked name room spef why is unread =
+    subst (λ (t : Task). HasStopped before after (file_words asked) (λ texts. reply texts t room spef) why) (sym (verifies asked.task name (sym is)))
+    (stops-first before after (file_words asked) (λ texts. read_file texts name room spef_outcome) (λ texts read. Done (compared spef read.0)) why
+    (stops-file before after (file_words asked) name room spef_outcome why (spef-among asked name (sym is)) unread))
+
+pub reply-compared : (before : Shelf) (asked : Request) (name : List ℕ) (room left : ℕ) (spef file : Spef) → Some name ≡ spef_word asked.task
+    → (IsTrue before.tells → read_file before.texts name room spef_outcome ≡ Done (file, left))
+    → IsTrue before.tells → reply before.texts asked.task room spef ≡ Done (compared spef file)
+reply-compared before asked name room left spef file is read told =
+    ap (λ t. reply before.texts t room spef) (verifies asked.task name (sym is)) ∙ ap (λ c. proceed c (λ read. Done (compared spef read.0))) (read told)
+
+extracts : (task : Task) → spef_word task ≡ None → task ≡ Extract
+extracts Extract is = refl
+extracts (Verify spef) is = cc
+
+pub reply-written : (texts : Texts) (task : Task) (room : ℕ) (spef : Spef) → None ≡ spef_word task → reply texts task room spef ≡ Done (written spef)
+reply-written texts task room spef is = ap (λ t. reply texts t room spef) (extracts task (sym is))
+
+-- ---- all together
+
+abbrev pub reply_step : Request → Texts → Placed → Spef → Course Reply
+reply_step asked texts placed spef = reply texts asked.task placed.room spef
+
+abbrev pub extract_step : Request → Texts → Placed → Course Reply
+extract_step asked texts placed = proceed (extracted asked.inputs.def placed) (reply_step asked texts placed)
+
+pub outcome-stops-first : (before after : Shelf) (asked : Request) (why : Stop)
+    → HasStopped before after (file_words asked) (λ texts. layout texts asked.inputs) why → HasStopped before after (file_words asked) (λ texts. outcome texts asked) why
+unfolding outcome
+outcome-stops-first before after asked why stopped =
+    stops-first before after (file_words asked) (λ texts. layout texts asked.inputs) (extract_step asked) why stopped
+
+pub outcome-stops-between : (before after : Shelf) (asked : Request) (name : List ℕ) (placed : Placed) (why : Stop) → name ≡ asked.inputs.def
+    → Keeps before after → (IsTrue before.tells → layout before.texts asked.inputs ≡ Done placed) → IsRefusedBy (extracted name placed) why
+    → HasStopped before after (file_words asked) (λ texts. outcome texts asked) why
+unfolding outcome
+outcome-stops-between before after asked name placed why is keeps done refused =
+    stops-later before after after (file_words asked) (λ texts. layout texts asked.inputs) (extract_step asked) placed why (orderly-layout asked.inputs) keeps done
+    (stops-first after after (file_words asked) (λ texts. extracted asked.inputs.def placed) (λ texts spef. reply_step asked texts placed spef) why
+    (stops-refused after after (file_words asked) (extracted asked.inputs.def placed) why (subst (λ n. IsRefusedBy (extracted n placed) why) is refused)))
+
+pub outcome-stops-later : (before between after : Shelf) (asked : Request) (name : List ℕ) (placed : Placed) (room : ℕ) (spef : Spef) (why : Stop) → name ≡ asked.inputs.def → room ≡ placed.room
+    → Keeps before between → (IsTrue before.tells → layout before.texts asked.inputs ≡ Done placed) → extracted name placed ≡ Done spef
+    → HasStopped between after (file_words asked) (λ texts. reply texts asked.task room spef) why
+    → HasStopped before after (file_words asked) (λ texts. outcome texts asked) why
+unfolding outcome
+outcome-stops-later before between after asked name placed room spef why is left keeps done found stopped =
+    stops-later before between after (file_words asked) (λ texts. layout texts asked.inputs) (extract_step asked) placed why (orderly-layout asked.inputs) keeps done
+    (subst (λ (c : Course Spef). HasStopped between after (file_words asked) (λ texts. proceed c (reply_step asked texts placed)) why)
+    (sym found ∙ ap (λ n. extracted n placed) is)
+    (subst (λ n. HasStopped between after (file_words asked) (λ texts. reply texts asked.task n spef) why) left stopped))
+
+pub outcome-done : (before between : Shelf) (asked : Request) (name : List ℕ) (placed : Placed) (room : ℕ) (spef : Spef) (told : Reply) → name ≡ asked.inputs.def → room ≡ placed.room
+    → Keeps before between → (IsTrue before.tells → layout before.texts asked.inputs ≡ Done placed) → extracted name placed ≡ Done spef
+    → (IsTrue between.tells → reply between.texts asked.task room spef ≡ Done told)
+    → IsTrue before.tells → outcome before.texts asked ≡ Done told
+unfolding outcome
+outcome-done before between asked name placed room spef told is left keeps done found replied =
+    done-then before between (λ texts. layout texts asked.inputs) (extract_step asked) placed told keeps done
+    (λ tells. ap (λ c. proceed c (reply_step asked between.texts placed)) (ap (λ n. extracted n placed) (sym is) ∙ found)
+    ∙ ap (λ n. reply between.texts asked.task n spef) (sym left) ∙ replied tells)
+
+-- what the reply's call answers, seen from the start of the work
+pub outcome-tells : (r : Result Reply Stop) (before between : Shelf) (asked : Request) (name : List ℕ) (placed : Placed) (room : ℕ) (spef : Spef) → name ≡ asked.inputs.def → room ≡ placed.room
+    → Keeps before between → (IsTrue before.tells → layout before.texts asked.inputs ≡ Done placed) → extracted name placed ≡ Done spef
+    → IfOk r (λ told. IsTrue between.tells → reply between.texts asked.task room spef ≡ Done told) → IfOk r (λ told. IsTrue before.tells → outcome before.texts asked ≡ Done told)
+outcome-tells (Ok told) before between asked name placed room spef is left keeps done found replied =
+    outcome-done before between asked name placed room spef told is left keeps done found replied
+outcome-tells (Err why) before between asked name placed room spef is left keeps done found replied = tt
+
+pub outcome-stops : (r : Result Reply Stop) (before between after : Shelf) (asked : Request) (name : List ℕ) (placed : Placed) (room : ℕ) (spef : Spef) → name ≡ asked.inputs.def → room ≡ placed.room
+    → Keeps before between → (IsTrue before.tells → layout before.texts asked.inputs ≡ Done placed) → extracted name placed ≡ Done spef
+    → IfErr r (HasStopped between after (file_words asked) (λ texts. reply texts asked.task room spef)) → IfErr r (HasStopped before after (file_words asked) (λ texts. outcome texts asked))
+outcome-stops (Ok told) before between after asked name placed room spef is left keeps done found stopped = tt
+outcome-stops (Err why) before between after asked name placed room spef is left keeps done found stopped =
+    outcome-stops-later before between after asked name placed room spef why is left keeps done found stopped
+
+-- ---- passes
+
+-- so many were drawn, or at most so many
+pub drew : (placed : Placed) (before after : ℕ) → after ≡ before + 2 * window_count (grid_of placed.layout placed.rules) → after ≡ before + passes_for placed
+unfolding passes_for
+drew placed before after is = is
+
+pub drew_within : (placed : Placed) (before after : ℕ) → after ≤ before + 2 * window_count (grid_of placed.layout placed.rules) → after ≤ before + passes_for placed
+unfolding passes_for
+drew_within placed before after is = is
