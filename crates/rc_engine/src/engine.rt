@@ -247,6 +247,13 @@ impl Engine {
         }
     }
 
+    /// What holds of every engine. Nothing is computed here.
+    pub fn facts(&self)
+        ensures { IsEngine self.now }
+    {
+        let _touched = self.touched;
+    }
+
     /// The layout.
     pub fn layout(&self) -> &Layout
         ensures { result.now ≡ self.now.layout }
@@ -459,8 +466,15 @@ impl Engine {
         ensures spent { M.drawn meter.new ≤ M.drawn meter.old + 2 * length (edit_windows self.old.frame self.old.layout net paths.now) }
     {
         match self.edit(rt, alloc, net, paths, gate, meter) {
-            Ok(edit) => Ok(self.put(net, edit)),
-            Err(fault) => Err(fault),
+            Ok(edit) => {
+                let count = self.put(net, edit);
+                self.facts();
+                Ok(count)
+            }
+            Err(fault) => {
+                self.facts();
+                Err(fault)
+            }
         }
     }
 

@@ -27,7 +27,7 @@ value_from-requires-clause-entries c =
     let grid = c.self.inside.grid in
     let within = subst (λ (e : Engine). c.args.net < length e.layout.nets) (sym c.self.view_is) c.requires in
     let there = old_there c.self.inside.layout c.nets.result.now c.args.net net c.nets.ensures within c.index-nets-net.is in
-    let rects = c.deref.ensures.value ∙ c.in_ok-rects.ensures ∙ ap (map (λ (item : Item). item.rect)) c.items-items.ensures in
+    let rects = c.deref.ensures.value ∙ c.in_ok-rects.ensures ∙ ap (map (λ (item : Item). item.rect)) c.items-items.ensures ∙ ap net_rects (sym c.index-nets-net.is) in
     let windows = c.items-2.ensures ∙ c.in_ok-windows.ensures.list ∙ ap (λ (rs : List Rect). touched grid (rs ++ [])) rects ∙ ap (touched grid) (append-nil (net_rects net)) in
     c.deref_mut.ensures.value ∙ c.into_vec-entries.ensures
     ∙ own_gathered _ c.args.net net c.items.result.now c.items-2.result.now c.in_ok-entries.entries c.self.invariant.0 there c.items.ensures windows c.in_ok-entries.ensures
