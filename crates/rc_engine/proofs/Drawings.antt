@@ -94,9 +94,12 @@ measured_more drawn i e tiles after count all within so_far put adds few =
 at_default : {X : Type 0} (xs : List X) (i : ℕ) (x : X) → x ≡ get_or xs i x → get_or xs i x ≡ x
 at_default xs i x is = sym is
 
-nodes_at : (nets : List Net) (lists : List (List Node)) (i : ℕ) (net : Net) (list nodes : List Node) → i < length nets → net ≡ get_or nets i net → lists ≡ map nodes_of nets → list ≡ get_or lists i list → nodes ≡ list → nodes ≡ nodes_of net
+pub nodes_at : (nets : List Net) (lists : List (List Node)) (i : ℕ) (net : Net) (list nodes : List Node) → i < length nets → net ≡ get_or nets i net → lists ≡ map nodes_of nets → list ≡ get_or lists i list → nodes ≡ list → nodes ≡ nodes_of net
 nodes_at nets lists i net list nodes within is are at same =
     same ∙ at ∙ ap (λ ls. get_or ls i list) are ∙ get_or-map nodes_of nets i net list within ∙ ap nodes_of (sym is)
+
+pub nodes_there : (nets : List Net) (lists : List (List Node)) (i : ℕ) (net : Net) (list nodes : List Node) → slice_get nets i ≡ Some net → lists ≡ map nodes_of nets → list ≡ get_or lists i list → nodes ≡ list → nodes ≡ nodes_of net
+nodes_there nets lists i net list nodes there are at same = nodes_at nets lists i net list nodes (slice_get_within nets i net there) (sym (get_or_from_slice_get nets i net net there)) are at same
 
 pub own_nodes_are : (wired : Wired) (nets : List Net) (lists : List (List Node)) (i : ℕ) (net : Net) (list nodes : List Node) → nets ≡ wired.nets → i < length nets → net ≡ get_or nets i net → lists ≡ map nodes_of wired.nets →
     list ≡ get_or lists i list → nodes ≡ list → nodes ≡ nodes_of net
@@ -152,6 +155,9 @@ all_measured drawn i tiles count past so_far few =
     let is = all.counted in
     let least = all.least in
     record { are = all.are; few = omega (arith, is, few); least = omega (arith, least, few) }
+
+pub all_counted : (drawn : List DrawnNet) (i : ℕ) (tiles : List Tile) (count : ℕ) → length drawn ≤ i → AreMeasured (take i drawn) tiles count → count ≡ tile_total drawn
+all_counted drawn i tiles count past so_far = so_far.counted ∙ ap tile_total (take_all i drawn past)
 
 pub tiles_are : (wired : Wired) (tiles : List Tile) → AreTilesWithin (drawn_nets wired) tiles → tiles ≡ layout_tiles wired
 unfolding layout_tiles

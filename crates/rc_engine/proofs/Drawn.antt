@@ -58,14 +58,14 @@ find_tells {X} test (y ∷ ys) x h = by (find_tells test ys x) (test y) refl
         let later = rest (sym (ap (λ (t : Bool). cond t (Some y) (find test ys)) misses) ∙ h) in
         (in_tail y ys x later.0, later.1)
 
-numbered_in : {X : Type 0} (n : ℕ) (xs : List X) (e : ℕ × X) → Contains (enumerate_from n xs) e → Contains xs e.1
+pub numbered_in : {X : Type 0} (n : ℕ) (xs : List X) (e : ℕ × X) → Contains (enumerate_from n xs) e → Contains xs e.1
 numbered_in n [] e h = absurd (none_in e h)
 numbered_in {X} n (x ∷ xs) e h = ⊎_elim
     (λ (here : (n, x) ≡ e). at_head x xs e.1 (ap (λ (m : ℕ × X). m.1) here))
     (λ (there : Contains (enumerate_from (n + 1) xs) e). in_tail x xs e.1 (numbered_in (n + 1) xs e there))
     (head_or_tail (n, x) (enumerate_from (n + 1) xs) e h)
 
-lists_joined : {X Y : Type 0} (f : X → List Y) (xs : List X) → flat_map (λ (ys : List Y). ys) (map f xs) ≡ flat_map f xs
+pub lists_joined : {X Y : Type 0} (f : X → List Y) (xs : List X) → flat_map (λ (ys : List Y). ys) (map f xs) ≡ flat_map f xs
 lists_joined f [] = refl
 lists_joined {Y = Y'} f (x ∷ xs) = ap (λ (ys : List Y'). f x ++ ys) (lists_joined f xs)
 

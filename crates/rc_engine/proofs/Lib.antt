@@ -17,3 +17,12 @@ pub mod KeysOfTiles
 pub mod WindowSums
 pub mod Squares
 pub mod Limits
+pub mod Alike
+pub mod Swapped
+pub mod Lacking
+pub mod Edited
+pub mod Placing
+pub mod OwnWindows
+pub mod NameLists
+pub mod Editing
+pub mod Accepting

@@ -1,7 +1,7 @@
 -- The nodes of nets, one net after another, and what refuses too many.
-use Rattle.std.proofs.Common.{◌≡◌, ◌<◌, ◌≤◌, ◌+◌, ◌^◌, ℕ, List, [], ◌∷◌, ◌++◌, map, length, get_or, take, ap, sym, subst, ◌∙◌, arith}
+use Rattle.std.proofs.Common.{◌≡◌, ◌<◌, ◌≤◌, ◌+◌, ◌-◌, ◌^◌, ℕ, List, [], ◌∷◌, ◌++◌, map, length, get_or, take, ap, sym, subst, ◌∙◌, arith}
 use Rattle.std.specs.List.{sum_by}
-use Rattle.std.proofs.lemmas.List.{take_more, map-append}
+use Rattle.std.proofs.lemmas.List.{take_all, take_more, map-append}
 use Rattle.std.proofs.lemmas.List.Sums.{sum_by-append, sum_by_more_le}
 use Rattle.rc_keys.specs.declared.fault.Fault.{Fault}
 use Rattle.rc_keys.specs.declared.fault.Fault.TheVariants.{Refused, NoMemory}
@@ -29,6 +29,11 @@ count_more nets i d within =
 
 pub room_left : (nets : List Net) (i : ℕ) (d : Net) (room after n : ℕ) → i < length nets → room + node_count (take i nets) ≡ 2 ^ 22 → n ≡ length (nodes_of (get_or nets i d)) → after + n ≡ room → after + node_count (take (i + 1) nets) ≡ 2 ^ 22
 room_left nets i d room after n within so_far is left = let more = count_more nets i d within in omega (arith, so_far, is, left, more)
+
+pub all_nodes_counted : (nets : List Net) (i room : ℕ) → length nets ≤ i → room + node_count (take i nets) ≡ 2 ^ 22 → 2 ^ 22 - room ≡ node_count nets
+all_nodes_counted nets i room past so_far =
+    let all : node_count (take i nets) ≡ node_count nets = ap node_count (take_all i nets past) in
+    omega (arith, so_far, all)
 
 pub too_many_nodes : (nets : List Net) (i : ℕ) (d : Net) (room : ℕ) (fault : Fault) → i < length nets → room + node_count (take i nets) ≡ 2 ^ 22 → IsNodesFault room (get_or nets i d) fault → HaveTooManyNodes nets fault
 unfolding node_count

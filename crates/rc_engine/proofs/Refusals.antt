@@ -1,5 +1,5 @@
 -- What refuses the start of an engine, one test after another.
-use Rattle.std.proofs.Common.{◌≡◌, ◌<◌, ◌≤◌, ◌^◌, ℕ, true, false, cond, refl, ap, sym, ◌∙◌, arith}
+use Rattle.std.proofs.Common.{◌≡◌, ◌<◌, ◌≤◌, ◌^◌, ℕ, Bool, true, false, cond, refl, ap, sym, ◌∙◌, arith}
 use Rattle.std.specs.Prelude.{Option, Some, None, nat_lt, option_map}
 use Rattle.std.specs.Option.{option_or}
 use Rattle.std.proofs.lemmas.Bool.Decides.{nat_tests}
@@ -109,3 +109,37 @@ none_mapped (Some s) none = absurd cc
 pub clear_is : (wired : Wired) → first_short_refusal wired ≡ None → first_short (layout_shapes wired) ≡ None
 unfolding first_short_refusal
 clear_is wired none = none_mapped (first_short (layout_shapes wired)) none
+
+-- ---- where nothing refuses
+
+none_some : (r : Refusal) → Some r ≡ None → ⊥
+none_some r h = cc
+
+none_first : (o p : Option Refusal) → option_or o p ≡ None → o ≡ None
+none_first None p h = refl
+none_first (Some r) p h = absurd cc
+
+pub nothing_missing : (wired : Wired) (rules : RuleFile) → start_refusal wired rules ≡ None → missing_rules wired rules ≡ None
+unfolding start_refusal
+nothing_missing wired rules none = none_first (missing_rules wired rules) (option_or (limit_refusal wired) (first_short_refusal wired)) none
+
+within_limit : (most count : ℕ) (what : Quantity) → above most count what ≡ None → count ≤ most
+within_limit most count what none = by (nat_lt most count) refl
+  where
+    by : (b : Bool) → nat_lt most count ≡ b → count ≤ most
+    by true h = absurd (none_some (Limit what) (sym (ap (λ b. cond b (Some (Limit what)) None) h) ∙ none))
+    by false h = grind (arith, nat_tests)
+
+none_second : (o p : Option Refusal) → option_or o p ≡ None → p ≡ None
+none_second None p h = h
+none_second (Some r) p h = absurd cc
+
+-- the limits hold
+pub limits_kept : (wired : Wired) (rules : RuleFile) → start_refusal wired rules ≡ None → (node_count wired.nets ≤ 2 ^ 22) × (tile_total (drawn_nets wired) ≤ 2 ^ 23)
+unfolding start_refusal limit_refusal
+limits_kept wired rules none =
+    let rest = none_second (missing_rules wired rules) (option_or (limit_refusal wired) (first_short_refusal wired)) none in
+    let limits = none_first (limit_refusal wired) (first_short_refusal wired) rest in
+    let nodes = none_first (above (2 ^ 22) (node_count wired.nets) Nodes) (above (2 ^ 23) (tile_total (drawn_nets wired)) Tiles) limits in
+    let tiles = none_second (above (2 ^ 22) (node_count wired.nets) Nodes) (above (2 ^ 23) (tile_total (drawn_nets wired)) Tiles) limits in
+    (within_limit (2 ^ 22) (node_count wired.nets) Nodes nodes, within_limit (2 ^ 23) (tile_total (drawn_nets wired)) Tiles tiles)

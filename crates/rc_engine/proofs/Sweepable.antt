@@ -62,7 +62,7 @@ pub net_of_tile : (wired : Wired) (tile : Tile) → Contains (layout_tiles wired
 unfolding layout_tiles
 net_of_tile wired tile h = in_flat_map tiles_of (drawn_nets wired) tile h
 
-covers_outer : (inner outer : Rect) (p : Pt) → IsInside inner outer → covers inner p ≡ true → covers outer p ≡ true
+pub covers_outer : (inner outer : Rect) (p : Pt) → IsInside inner outer → covers inner p ≡ true → covers outer p ≡ true
 covers_outer inner outer p inside h =
     let c = covered inner p h in
     let left = c.left in
@@ -155,7 +155,7 @@ list_at frame tiles k ts within = get_or-map-range_with_len (near_tiles frame ti
 pub windows_count : (frame : Frame) → length (windows_of frame) ≡ window_count frame
 windows_count frame = length-map-range_with_len (window_of frame) 0 (window_count frame)
 
-few_near : (frame : Frame) (tiles : List Tile) (k : ℕ) → length (near_tiles frame tiles k) ≤ length tiles
+pub few_near : (frame : Frame) (tiles : List Tile) (k : ℕ) → length (near_tiles frame tiles k) ≤ length tiles
 few_near frame tiles k =
     let both = length-filter_both (λ (t : Tile). meets frame t.rect k) (λ (t : Tile). not (meets frame t.rect k)) (λ _. refl) tiles in
     omega (arith, both)

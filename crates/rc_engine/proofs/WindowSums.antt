@@ -49,7 +49,7 @@ use Rattle.rc_engine.proofs.Steps.{entries_more}
 use Rattle.rc_engine.proofs.Sweepable.{tiles_are_sweepable, window_at, list_at, windows_count}
 use Rattle.std.proofs.lemmas.List.Elements.{All-contains}
 
-abbrev Entries : Type 0
+abbrev pub Entries : Type 0
 Entries = List (Entry ℕ)
 
 -- ---- the entry of a sum
@@ -186,7 +186,7 @@ all_tell q tallies counts values rising each =
 
 -- ---- the windows of a layout
 
-tally_at : (frame : Frame) (rates : Rates ℕ) (tiles : List Tile) (tallies : List Entries) (k : ℕ) → AreTalliesOf numbers rates (windows_of frame) (near_lists frame tiles) tallies → k < window_count frame →
+pub tally_at : (frame : Frame) (rates : Rates ℕ) (tiles : List Tile) (tallies : List Entries) (k : ℕ) → AreTalliesOf numbers rates (windows_of frame) (near_lists frame tiles) tallies → k < window_count frame →
     IsTallyOf numbers rates (window_of frame k) (near_tiles frame tiles k) (get_or tallies k [])
 tally_at frame rates tiles tallies k are within =
     let count = windows_count frame in
@@ -195,7 +195,7 @@ tally_at frame rates tiles tallies k are within =
     (are.each k (window_of frame 0) [] [] (omega (arith, within, count))))
 
 -- the halo of the rules reaches as far as the faces of the tiles look
-halo_reaches : (rules : RuleFile) (frame : Frame) (tiles : List Tile) (k : ℕ) → AreSweepable (HasRules rules) tiles → frame.halo ≡ halo_of rules → HaloReaches (plane_of tiles) (rates rules) (window_rect frame k) frame.halo
+pub halo_reaches : (rules : RuleFile) (frame : Frame) (tiles : List Tile) (k : ℕ) → AreSweepable (HasRules rules) tiles → frame.halo ≡ halo_of rules → HaloReaches (plane_of tiles) (rates rules) (window_rect frame k) frame.halo
 halo_reaches rules frame tiles k can halo = λ layer p inside metal. by layer p (plane_of tiles layer p) refl metal
   where
     ruled : (layer : ℕ) → HasRules rules layer → ((rates rules).reach layer + 1 ≤ frame.halo) × ((rates rules).cap layer ≤ frame.halo)

@@ -8,5 +8,6 @@ pub mod Windows
 pub mod Start
 pub mod Measured
 pub mod Engine
+pub mod Edits
 pub mod WindowLaws
 pub mod Fits

@@ -75,6 +75,12 @@ missing_rules wired rules =
     option_or (option_map (no_layer false) (least_lacking (lacks_block rules) (layers_in_use wired)))
     (option_map (no_layer true) (least_lacking (lacks_cut rules) (cuts_in_use wired)))
 
+-- the same of one net that isn't grounded
+unfoldable pub net_missing : List Via → RuleFile → Net → Option Refusal
+net_missing vias rules net =
+    option_or (option_map (no_layer false) (least_lacking (lacks_block rules) (net_layers net)))
+    (option_map (no_layer true) (least_lacking (lacks_cut rules) (net_cuts vias net)))
+
 -- ---- limits
 
 -- how many nodes all nets have that aren't grounded

@@ -2,8 +2,9 @@
 
 ghost use Rattle.std.specs.Prelude.{◌≡◌, ◌≤◌, ◌^◌, None, IfOk, IfErr, length, map};
 ghost use Rattle.rc_nodes.specs.Nodes.{nodes_of};
+ghost use Rattle.rc_nodes.specs.LayoutPlane.{drawn_nets};
 ghost use Rattle.rc_engine.specs.Windows.{layout_tiles, IsExtractable};
-ghost use Rattle.rc_engine.specs.Start.{node_count, limit_refusal, first_short_refusal, start_refusal, short_refusal as short_refusal_of, IsStartFault, IsRefusal};
+ghost use Rattle.rc_engine.specs.Start.{node_count, tile_total, limit_refusal, first_short_refusal, start_refusal, short_refusal as short_refusal_of, IsStartFault, IsRefusal};
 
 use crate::measured::{all_tiles, node_lists};
 use crate::missing::missing_rules;
@@ -16,17 +17,21 @@ use rc_rules::Rules;
 use rc_shorts::{Short, first_short};
 use std::alloc::Global;
 
-/// The nodes of all nets that aren't grounded, and the tiles of all nets.
+/// The nodes of all nets that aren't grounded, and the tiles of all nets; and how many both count against their limits.
 #[derive(Drop)]
 pub struct Measure {
     pub nodes: List<List<Node>>,
+    pub node_count: u32,
     pub tiles: List<Tile>,
+    pub tile_count: u64,
 }
 
 /// The nodes and the tiles of a layout, within their limits.
 fn measured(alloc: Global, layout: &Layout) -> Result<Measure, Fault>
     ensures nodes { IfOk result (λ measure. measure.nodes ≡ map nodes_of layout.now.nets) }
     ensures tiles { IfOk result (λ measure. measure.tiles ≡ layout_tiles layout.now) }
+    ensures node_count { IfOk result (λ measure. measure.node_count ≡ node_count layout.now.nets) }
+    ensures tile_count { IfOk result (λ measure. measure.tile_count ≡ tile_total (drawn_nets layout.now)) }
     ensures few { IfOk result (λ measure. length measure.tiles ≤ 2 ^ 23) }
     ensures few_nodes { IfOk result (λ _. node_count layout.now.nets ≤ 2 ^ 22) }
     ensures within { IfOk result (λ _. limit_refusal layout.now ≡ None) }
@@ -37,14 +42,19 @@ fn measured(alloc: Global, layout: &Layout) -> Result<Measure, Fault>
         Ok(nodes) => nodes,
         Err(fault) => return Err(fault),
     };
-    match all_tiles(alloc, layout, nodes.items()) {
-        Ok(tiles) => Ok(Measure { nodes, tiles }),
+    match all_tiles(alloc, layout, nodes.lists.items()) {
+        Ok(counted) => Ok(Measure {
+            nodes: nodes.lists,
+            node_count: nodes.count,
+            tiles: counted.tiles,
+            tile_count: counted.count,
+        }),
         Err(fault) => Err(fault),
     }
 }
 
 /// The refusal of a short.
-fn short_refusal(short: &Short) -> Refusal
+pub fn short_refusal(short: &Short) -> Refusal
     ensures { result ≡ short_refusal_of short.now }
 {
     Refusal::Short {
@@ -75,6 +85,8 @@ fn refuse_short(alloc: Global, layout: &Layout) -> Result<(), Fault>
 pub fn accepted(alloc: Global, layout: &Layout, rules: &Rules) -> Result<Measure, Fault>
     ensures nodes { IfOk result (λ measure. measure.nodes ≡ map nodes_of layout.now.nets) }
     ensures tiles { IfOk result (λ measure. measure.tiles ≡ layout_tiles layout.now) }
+    ensures node_count { IfOk result (λ measure. measure.node_count ≡ node_count layout.now.nets) }
+    ensures tile_count { IfOk result (λ measure. measure.tile_count ≡ tile_total (drawn_nets layout.now)) }
     ensures extractable { IfOk result (λ _. IsExtractable layout.now rules.now) }
     ensures clear { IfOk result (λ _. start_refusal layout.now rules.now ≡ None) }
     ensures few { IfOk result (λ _. node_count layout.now.nets ≤ 2 ^ 22) }

@@ -21,7 +21,7 @@ fn put(lists: &mut Vec<Entries>, net: u32, entry: Entry<u128>) -> Result<(), NoM
 }
 
 /// An entry for its second net, whose node then stands first.
-fn turned(entry: &Entry<u128>, net: u32, node: u32, other: u32, onode: u32) -> Entry<u128>
+pub fn turned(entry: &Entry<u128>, net: u32, node: u32, other: u32, onode: u32) -> Entry<u128>
     requires { entry.now.key ≡ Pair net node other onode }
     ensures { result ≡ turned_about entry.now entry.now.key }
 {

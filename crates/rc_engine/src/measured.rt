@@ -6,7 +6,7 @@ ghost use Rattle.rc_nodes.specs.Nodes.{nodes_of, AreInOrder};
 ghost use Rattle.rc_nodes.specs.Counts.{tile_count as tile_count_of};
 ghost use Rattle.rc_nodes.specs.Shares.{net_tiles};
 ghost use Rattle.rc_nodes.specs.LayoutPlane.{drawn_nets};
-ghost use Rattle.rc_engine.specs.Start.{tile_total};
+ghost use Rattle.rc_engine.specs.Start.{node_count, tile_total};
 ghost use Rattle.rc_engine.specs.Measured.{AreNodeLists, AreTilesWithin, HaveTooManyNodes, HasTooManyTiles, IsDrawn};
 
 use rc_fixed::{List, NoMemory};
@@ -17,19 +17,34 @@ use rc_nodes::{Lines, Node, nodes, tile_count_on, tiles_on};
 use std::alloc::Global;
 
 /// How many nodes all nets have at most.
-const MOST_NODES: u32 = 4_194_304;
+pub const MOST_NODES: u32 = 4_194_304;
 
 /// How many tiles all nets count at most.
 const MOST_TILES: u64 = 8_388_608;
+
+/// The nodes of nets, and how many there are.
+#[derive(Drop)]
+pub struct NodeLists {
+    pub lists: List<List<Node>>,
+    pub count: u32,
+}
+
+/// The tiles of all nets, and how many they count against their limit.
+#[derive(Drop)]
+pub struct CountedTiles {
+    pub tiles: List<Tile>,
+    pub count: u64,
+}
 
 /// The nodes of all nets, in the order of their numbers.
 ///
 /// # Errors
 ///
 /// `Limit { Nodes }` exactly where there are more than 2^22; `NoMemory` for want of memory.
-pub fn node_lists(alloc: Global, nets: &[Net]) -> Result<List<List<Node>>, Fault>
+pub fn node_lists(alloc: Global, nets: &[Net]) -> Result<NodeLists, Fault>
     requires { All IsWellFormed nets.now }
-    ensures lists { IfOk result (AreNodeLists nets.now) }
+    ensures lists { IfOk result (λ nodes. AreNodeLists nets.now nodes.lists) }
+    ensures count { IfOk result (λ nodes. nodes.count ≡ node_count nets.now) }
     ensures fault { IfErr result (HaveTooManyNodes nets.now) }
 {
     let mut lists = List::with_capacity(alloc, nets.len())?;
@@ -42,11 +57,14 @@ pub fn node_lists(alloc: Global, nets: &[Net]) -> Result<List<List<Node>>, Fault
         room -= list.len() as u32;
         lists.push(list)?;
     }
-    Ok(lists)
+    Ok(NodeLists {
+        lists,
+        count: MOST_NODES - room,
+    })
 }
 
 /// Appends the tiles of a net to those that count so many, and answers how many all of them count.
-fn add_tiles(
+pub fn add_tiles(
     alloc: Global,
     tiles: &mut List<Tile>,
     count: u64,
@@ -102,9 +120,14 @@ fn drawn<'a>(layout: &'a Layout, lists: &'a [List<Node>], number: u32) -> (&'a N
 /// # Errors
 ///
 /// `Limit { Tiles }` exactly where they count more than 2^23; `NoMemory` for want of memory.
-pub fn all_tiles(alloc: Global, layout: &Layout, lists: &[List<Node>]) -> Result<List<Tile>, Fault>
+pub fn all_tiles(
+    alloc: Global,
+    layout: &Layout,
+    lists: &[List<Node>],
+) -> Result<CountedTiles, Fault>
     requires { AreNodeLists layout.now.nets lists.now }
-    ensures tiles { IfOk result (AreTilesWithin (drawn_nets layout.now)) }
+    ensures tiles { IfOk result (λ counted. AreTilesWithin (drawn_nets layout.now) counted.tiles) }
+    ensures count { IfOk result (λ counted. counted.count ≡ tile_total (drawn_nets layout.now)) }
     ensures fault { IfErr result (HasTooManyTiles 0 (tile_total (drawn_nets layout.now))) }
 {
     layout.facts();
@@ -117,5 +140,5 @@ pub fn all_tiles(alloc: Global, layout: &Layout, lists: &[List<Node>]) -> Result
             Err(fault) => return Err(fault),
         };
     }
-    Ok(tiles)
+    Ok(CountedTiles { tiles, count })
 }

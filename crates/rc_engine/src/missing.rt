@@ -5,7 +5,7 @@ ghost use Rattle.std.specs.List.{cons_option, flat_map};
 ghost use Rattle.rc_rules.specs.RuleFile.{HasRules};
 ghost use Rattle.rc_layout.specs.Metal.{all_nets};
 ghost use Rattle.rc_engine.specs.Windows.{HasRatedItems};
-ghost use Rattle.rc_engine.specs.Start.{lesser as lesser_of, least_step, lacks_block, lacks_cut, net_layers, net_cuts, place_cuts, via_cut, least_lacking, layers_in_use, cuts_in_use, missing_rules as missing_rules_of};
+ghost use Rattle.rc_engine.specs.Start.{lesser as lesser_of, least_step, lacks_block, lacks_cut, net_layers, net_cuts, place_cuts, via_cut, least_lacking, layers_in_use, cuts_in_use, net_missing as net_missing_of, missing_rules as missing_rules_of};
 
 use rc_geom::Pt;
 use rc_keys::Refusal;
@@ -133,6 +133,20 @@ pub fn missing_rules(layout: &Layout, rules: &Rules) -> Option<Refusal>
         return Some(Refusal::NoRules { cut: false, number });
     }
     match missing_cut(layout, rules) {
+        Some(number) => Some(Refusal::NoRules { cut: true, number }),
+        None => None,
+    }
+}
+
+/// The same of one net that isn't grounded: of the layers on which it has metal, or else of the cut layers of its vias.
+pub fn net_missing(rules: &Rules, vias: &[Via], net: &Net) -> Option<Refusal>
+    ensures is { result ≡ net_missing_of vias.now rules.now net.now }
+    ensures rated { result ≡ None → HasRatedItems rules.now net.now }
+{
+    if let Some(number) = with_items(rules, None, net.items.items()) {
+        return Some(Refusal::NoRules { cut: false, number });
+    }
+    match with_vias(rules, vias, None, net.vias.items()) {
         Some(number) => Some(Refusal::NoRules { cut: true, number }),
         None => None,
     }

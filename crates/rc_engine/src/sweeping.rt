@@ -50,7 +50,7 @@ fn windows(alloc: Global, grid: &Grid) -> Result<List<Window>, NoMemory>
 }
 
 /// The keys of each tally rise. Nothing is computed here.
-fn rise(tallies: &[Tally<u128>])
+pub fn rise(tallies: &[Tally<u128>])
     ensures { All IsRising tallies.now }
 {
     for tally in tallies {

@@ -10,7 +10,7 @@ pub returns-in-Err-clause-fault : goal.returns-in-Err-clause-fault
 returns-in-Err-clause-fault c = nodes_refuse c.args.layout.now c.in-Err.fault (subst (λ nets. HaveTooManyNodes nets c.in-Err.fault) c.nets.ensures c.in-Err.ensures.fault)
 
 pub returns-in-Ok-all_tiles-clause-tiles : goal.returns-in-Ok-all_tiles-clause-tiles
-returns-in-Ok-all_tiles-clause-tiles c = tiles_are c.args.layout.now c.in-Ok-all_tiles.tiles c.in-Ok-all_tiles.ensures.tiles
+returns-in-Ok-all_tiles-clause-tiles c = tiles_are c.args.layout.now c.in-Ok-all_tiles.counted.tiles c.in-Ok-all_tiles.ensures.tiles
 
 pub returns-in-Ok-all_tiles-clause-within : goal.returns-in-Ok-all_tiles-clause-within
 returns-in-Ok-all_tiles-clause-within c =

@@ -1,7 +1,7 @@
 -- The tiles of one net more.
 use Rattle.std.proofs.Common.{ap, length, arith}
 use Rattle.rc_nodes.specs.LayoutPlane.{drawn_nets}
-use Rattle.rc_engine.proofs.Drawings.{drawn_length, none_measured, drawn_more, drawn_too_many, all_measured}
+use Rattle.rc_engine.proofs.Drawings.{drawn_length, none_measured, drawn_more, drawn_too_many, all_measured, all_counted}
 use Rattle.rc_engine.proofs.measured.all_tiles.Goals as goal
 
 pub loop-number-init : goal.loop-number-init
@@ -34,3 +34,11 @@ returns-clause-tiles c =
     let rest = ap length c.grounded.ensures in
     let test = c.loop-number-test.false in
     all_measured (drawn_nets c.args.layout.now) c.loop-number.number c.loop-number.tiles c.loop-number.count (omega (arith, long, own, rest, test)) c.loop-number.invariant.are c.loop-number.invariant.few
+
+pub returns-clause-count : goal.returns-clause-count
+returns-clause-count c =
+    let long = drawn_length c.args.layout.now in
+    let own = ap length c.nets.ensures in
+    let rest = ap length c.grounded.ensures in
+    let test = c.loop-number-test.false in
+    all_counted (drawn_nets c.args.layout.now) c.loop-number.number c.loop-number.tiles c.loop-number.count (omega (arith, long, own, rest, test)) c.loop-number.invariant.are

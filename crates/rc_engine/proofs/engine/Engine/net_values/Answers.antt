@@ -18,14 +18,14 @@ head : (c : goal.After-deref_mut) → (c.loop-entries.number < length c.args.lis
 head c =
     head_is_owned c.args.self.now.layout c.args.self.now.rules c.args.lists c.loop-entries.yielded (into_iter_items c.next.new.self) c.loop-entries.number c.loop-entries.values c.in-Some.entries (entries_of c.args.self.now.tallies) (so_far c) c.requires.owned
 
-pub net_value-requires-clause-number : goal.net_value-requires-clause-number
-net_value-requires-clause-number c =
+pub value_from-requires-clause-number : goal.value_from-requires-clause-number
+value_from-requires-clause-number c =
     let less = (head c).0 in
     let count = c.requires.count in
     omega (arith, less, count)
 
-pub net_value-requires-clause-entries : goal.net_value-requires-clause-entries
-net_value-requires-clause-entries c = c.deref_mut.ensures.value ∙ c.into_vec-entries.ensures ∙ (head c).1
+pub value_from-requires-clause-entries : goal.value_from-requires-clause-entries
+value_from-requires-clause-entries c = c.deref_mut.ensures.value ∙ c.into_vec-entries.ensures ∙ (head c).1
 
 pub overflow_add-number : goal.overflow_add-number
 overflow_add-number c =

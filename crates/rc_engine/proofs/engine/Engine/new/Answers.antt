@@ -10,4 +10,4 @@ returns-in-Ok-clause-engine g c =
 pub invariant_of-result : goal.invariant_of-result
 invariant_of-result g c =
     let is = c.in-Ok.ensures in
-    (begins _ is.extractable is.clear is.few c.requires.some c.requires.most is.frame is.halo is.index is.count is.tallies is.rising, is.naming, is.nodes)
+    (begins _ is.extractable is.clear is.few c.requires.some c.requires.most is.frame is.halo is.index is.count is.tallies is.rising, is.naming, is.nodes, is.names, is.node_count, is.tile_count)
