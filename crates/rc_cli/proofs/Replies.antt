@@ -1,5 +1,5 @@
 -- From a layout to the reply: what refuses it, what is read last, and what all comes to.
-use Rattle.std.proofs.Common.{◌≡◌, ◌≤◌, ◌+◌, ◌*◌, ◌++◌, ◌∷◌, [], ℕ, List, ap, ◌∙◌, refl, sym, subst, arith}
+use Rattle.std.proofs.Common.{◌≡◌, ◌≤◌, ◌+◌, ◌*◌, ◌++◌, ◌∷◌, [], ℕ, List, ap, ◌∙◌, refl, sym, subst, arith, Bool, true, false, cond}
 use Rattle.std.specs.Prelude.{IsTrue, Contains, Option, Some, None, Result, Ok, Err, IfOk, IfErr}
 use Rattle.std.proofs.lemmas.List.Elements.{Contains-append_right}
 use Rattle.rc_keys.specs.declared.fault.Fault.{Fault as Failure}
@@ -19,7 +19,7 @@ use Rattle.rc_cli.specs.Command.{Inputs, Task, Extract, Verify, Request, spef_wo
 use Rattle.rc_cli.specs.Lines.{names_of}
 use Rattle.rc_cli.specs.Outcome as course
 use Rattle.rc_cli.specs.Outcome.{Texts, Course, Done, Reply, proceed, unless_refused, read_file, layout, extracted, written, compared, reply, outcome, passes_for}
-use Rattle.rc_cli.specs.Answers.{Shelf}
+use Rattle.rc_cli.specs.Answers.{Shelf, reply_status}
 use Rattle.rc_cli.specs.Work.{Keeps, HasStopped, IsUnread, IsRefusedBy, TellsFault}
 use Rattle.rc_cli.proofs.Courses.{stops-first, stops-later, stops-file, stops-refused, done-then}
 use Rattle.rc_cli.proofs.Orders.{orderly-layout}
@@ -60,7 +60,7 @@ spef-among asked name is =
 abbrev pub comparing : Texts → List ℕ → ℕ → Spef → Course Reply
 comparing texts name room spef = proceed (read_file texts name room spef_outcome) (λ read. Done (compared spef read.0))
 
-verifies : (task : Task) (name : List ℕ) → spef_word task ≡ Some name → task ≡ Verify name
+pub verifies : (task : Task) (name : List ℕ) → spef_word task ≡ Some name → task ≡ Verify name
 verifies Extract name is = cc
 verifies (Verify spef) name is = let same : spef ≡ name = cc in ap Verify same
 
@@ -83,6 +83,14 @@ extracts (Verify spef) is = cc
 
 pub reply-written : (texts : Texts) (task : Task) (room : ℕ) (spef : Spef) → None ≡ spef_word task → reply texts task room spef ≡ Done (written spef)
 reply-written texts task room spef is = ap (λ t. reply texts t room spef) (extracts task (sym is))
+
+-- the status 6 is that of a reply that says so
+pub is-different : (told : Reply) (status : ℕ) → status ≡ 6 → status ≡ reply_status told → told.differs ≡ true
+is-different told status six is = decided told.differs status six is
+  where
+    decided : (differs : Bool) (n : ℕ) → n ≡ 6 → n ≡ cond differs 6 0 → differs ≡ true
+    decided true n one other = refl
+    decided false n one other = absurd (omega (arith, one, other))
 
 -- ---- all together
 

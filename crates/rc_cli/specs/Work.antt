@@ -1,5 +1,5 @@
 -- Why the work of a run stops, stage by stage.
-use Rattle.std.specs.Prelude.{ℕ, ◌≡◌, ◌<◌, ◌≤◌, IsTrue, List, Option, Some, Contains, length}
+use Rattle.std.specs.Prelude.{ℕ, ◌≡◌, ◌<◌, ◌≤◌, true, IsTrue, List, Option, Some, Contains, length}
 use Rattle.rc_io.specs.Causes.{Rose}
 use Rattle.rc_keys.specs.declared.code.Quantity.TheVariants.{Bytes}
 use Rattle.rc_keys.specs.declared.fault.Fault.{Fault as Failure}
@@ -8,7 +8,8 @@ use Rattle.rc_keys.specs.declared.fault.Refusal.TheVariants.{Limit}
 use Rattle.rc_cli.specs.declared.stop.Stop.{Stop}
 use Rattle.rc_cli.specs.declared.stop.Stop.TheVariants.{Refused, Fault, NoMemory}
 use Rattle.rc_cli.specs.Lines.{Names, no_names, refusal_line, read_fault_line}
-use Rattle.rc_cli.specs.Outcome.{Texts, Course, Missing}
+use Rattle.rc_cli.specs.Command.{Verify, Request}
+use Rattle.rc_cli.specs.Outcome.{Texts, Course, Missing, Reply}
 use Rattle.rc_cli.specs.Outcome as course
 use Rattle.rc_cli.specs.Answers.{Shelf, without}
 
@@ -52,3 +53,7 @@ TellsFault names file (failure.Refused refusal) (Refused line) = line ≡ refusa
 TellsFault names file failure.NoMemory (Refused line) = ⊥
 TellsFault names file fault (Fault line) = ⊥
 TellsFault names file fault NoMemory = Unit {0}
+
+-- a reply says that two values differ only where a comparison is asked for
+abbrev pub OnlyVerifyDiffers : Request → Reply → Type 0
+OnlyVerifyDiffers asked reply = reply.differs ≡ true → (spef : List ℕ) × (asked.task ≡ Verify spef)

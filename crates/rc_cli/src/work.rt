@@ -6,7 +6,7 @@ ghost use Rattle.rc_spef.specs.Text.{spef_text};
 ghost use Rattle.rc_cli.specs.Command.{Task, file_words, task_words, spef_word};
 ghost use Rattle.rc_cli.specs.Outcome.{Done, outcome, reply as reply_of, written as written_of, compared as compared_of, passes};
 ghost use Rattle.rc_cli.specs.Answers.{shelf};
-ghost use Rattle.rc_cli.specs.Work.{Keeps, HasStopped};
+ghost use Rattle.rc_cli.specs.Work.{Keeps, HasStopped, OnlyVerifyDiffers};
 
 use crate::command::Request;
 use crate::extracting::extracted;
@@ -103,6 +103,7 @@ fn answer<F: Files>(
     ensures done { IfOk result (λ reply. IsTrue (F.tells files.old) → reply_of (F.text files.old) asked.now.task room spef.now ≡ Done reply) }
     ensures stopped { IfErr result (HasStopped (shelf (F.tells files.old) (F.text files.old) (F.faults files.old)) (shelf (F.tells files.new) (F.text files.new) (F.faults files.new))
         (file_words asked.now) (λ texts. reply_of texts asked.now.task room spef.now)) }
+    ensures differs { IfOk result (OnlyVerifyDiffers asked.now) }
 {
     let Some(name) = asked.spef() else {
         return match written(alloc, spef) {
@@ -140,6 +141,7 @@ pub fn work<R: Threads + Sync, F: Files, M: Meter, G: Gate>(
     ensures done { IfOk result (λ reply. IsTrue (F.tells files.old) → outcome (F.text files.old) asked.now ≡ Done reply) }
     ensures stopped { IfErr result (HasStopped (shelf (F.tells files.old) (F.text files.old) (F.faults files.old)) (shelf (F.tells files.new) (F.text files.new) (F.faults files.new))
         (file_words asked.now) (λ texts. outcome texts asked.now)) }
+    ensures differs { IfOk result (OnlyVerifyDiffers asked.now) }
     ensures passes { IfOk result (λ _. IsTrue (F.tells files.old) → M.drawn meter.new ≡ M.drawn meter.old + passes (F.text files.old) asked.now.inputs) }
     ensures least { M.drawn meter.old ≤ M.drawn meter.new }
     ensures spent { IsTrue (F.tells files.old) → M.drawn meter.new ≤ M.drawn meter.old + passes (F.text files.old) asked.now.inputs }
