@@ -1,11 +1,10 @@
 -- How the work goes on, stage by stage.
-use Rattle.std.proofs.Common.{◌≡◌, ◌<◌, ◌≤◌, ◌-◌, ◌++◌, ◌∷◌, [], ℕ, List, Bool, true, false, cond, Option, Some, None, length, ap, ◌∙◌, refl, sym, arith, inl, inr, subst, ⊎_elim}
-use Rattle.std.specs.Prelude.{◌⊎◌, nat_lt, IsTrue, Contains, Result, Ok, Err, fold}
+use Rattle.std.proofs.Common.{◌≡◌, ◌<◌, ◌≤◌, ◌-◌, ℕ, List, Bool, true, false, cond, Option, Some, None, length, ap, ◌∙◌, refl, sym, arith, inl, inr, subst}
+use Rattle.std.specs.Prelude.{◌⊎◌, nat_lt, IsTrue, Contains, Result, Ok, Err}
 use Rattle.std.specs.Str.{bytes_eq}
 use Rattle.std.proofs.Math.Path.{fun_ext}
 use Rattle.std.proofs.lemmas.Bool.Decides.{nat_tests}
 use Rattle.std.proofs.lemmas.Slice.Eq.{bytes_eq-Decides}
-use Rattle.std.proofs.lemmas.Grind.{fold-append}
 use Rattle.rc_io.specs.Causes.{Rose}
 use Rattle.rc_keys.specs.declared.code.Quantity.TheVariants.{Bytes}
 use Rattle.rc_keys.specs.declared.fault.Fault.{Fault as Failure}
@@ -14,7 +13,7 @@ use Rattle.rc_keys.specs.declared.fault.Refusal.{Refusal}
 use Rattle.rc_keys.specs.declared.fault.Refusal.TheVariants.{Limit}
 use Rattle.rc_cli.specs.declared.stop.Stop.{Stop}
 use Rattle.rc_cli.specs.declared.stop.Stop.TheVariants.{Refused, Fault, NoMemory}
-use Rattle.rc_cli.specs.Lines.{Names, no_names, refusal_line, read_fault_line}
+use Rattle.rc_cli.specs.Lines.{no_names, refusal_line}
 use Rattle.rc_cli.specs.Outcome as course
 use Rattle.rc_cli.specs.Outcome.{Texts, Course, Missing, Done, proceed, settled, formed, read_within, read_file}
 use Rattle.rc_cli.specs.Answers.{Shelf, without}

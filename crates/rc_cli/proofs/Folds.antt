@@ -1,6 +1,6 @@
 -- A part of the work that is done for one item after another.
-use Rattle.std.proofs.Common.{◌≡◌, ◌<◌, ◌+◌, ◌++◌, ◌∷◌, [], ℕ, List, length, take, drop, map, get_or, ap, ◌∙◌, refl, sym, arith, subst, inl, inr}
-use Rattle.std.specs.Prelude.{IsTrue, fold}
+use Rattle.std.proofs.Common.{◌≡◌, ◌<◌, ◌+◌, ◌++◌, ◌∷◌, [], ℕ, List, length, take, drop, map, get_or, ap, ◌∙◌, refl, sym, subst}
+use Rattle.std.specs.Prelude.{fold}
 use Rattle.std.proofs.lemmas.Grind.{fold-append}
 use Rattle.std.proofs.lemmas.List.{map-append, take-append-drop, drop_more, take_more}
 use Rattle.rc_cli.specs.declared.stop.Stop.{Stop}

@@ -1,5 +1,5 @@
 -- The order of work: each part comes to the same without the file of a name, or it ends at that file.
-use Rattle.std.proofs.Common.{◌≡◌, ℕ, List, refl}
+use Rattle.std.proofs.Common.{ℕ, List}
 use Rattle.rc_lef.specs.Technology.{Technology, no_technology}
 use Rattle.rc_lef.specs.Rows.{lef_outcome}
 use Rattle.rc_def.specs.File.{def_outcome}

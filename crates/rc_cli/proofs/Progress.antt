@@ -1,5 +1,5 @@
 -- How far the files are read, file by file: what stops each stage, and what each one comes to.
-use Rattle.std.proofs.Common.{◌≡◌, ◌<◌, ◌+◌, ◌++◌, ◌∷◌, [], ℕ, List, length, take, map, get_or, ap, ◌∙◌, refl, sym, subst, arith, true≢false}
+use Rattle.std.proofs.Common.{◌≡◌, ◌<◌, ◌+◌, ◌∷◌, [], ℕ, List, length, take, map, get_or, ap, ◌∙◌, refl, sym, subst, arith, true≢false}
 use Rattle.std.specs.Prelude.{IsTrue, IsSome, IfSome, Contains, Result, Ok, Err, Option, Some, None}
 use Rattle.std.proofs.Math.ListN.{get_or-map}
 use Rattle.std.proofs.lemmas.List.{length-map}
@@ -23,7 +23,7 @@ use Rattle.rc_cli.specs.declared.stages.Ruled.{Ruled}
 use Rattle.rc_cli.specs.declared.stages.Placed.{Placed}
 use Rattle.rc_cli.specs.declared.stop.Stop.{Stop}
 use Rattle.rc_cli.specs.declared.stop.Stop.TheVariants.{Refused, Fault, NoMemory}
-use Rattle.rc_cli.specs.Command.{Inputs, Task, Request, task_words, file_words}
+use Rattle.rc_cli.specs.Command.{Inputs, Request, task_words, file_words}
 use Rattle.rc_cli.specs.Lines.{no_names}
 use Rattle.rc_cli.specs.Outcome as course
 use Rattle.rc_cli.specs.Outcome.{Texts, Course, Done, proceed, settled, read_file, most_bytes, micron, technology, design, ruled, layout}

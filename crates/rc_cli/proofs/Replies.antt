@@ -1,11 +1,9 @@
 -- From a layout to the reply: what refuses it, what is read last, and what all comes to.
-use Rattle.std.proofs.Common.{◌≡◌, ◌≤◌, ◌+◌, ◌*◌, ◌++◌, ◌∷◌, [], ℕ, List, ap, ◌∙◌, refl, sym, subst, arith, Bool, true, false, cond}
-use Rattle.std.specs.Prelude.{IsTrue, Contains, Option, Some, None, Result, Ok, Err, IfOk, IfErr}
+use Rattle.std.proofs.Common.{◌≡◌, ◌≤◌, ◌+◌, ◌*◌, ◌∷◌, [], ℕ, List, ap, ◌∙◌, refl, sym, subst, arith, Bool, true, false, cond}
+use Rattle.std.specs.Prelude.{IsTrue, Contains, Some, None, Result, Ok, Err, IfOk, IfErr}
 use Rattle.std.proofs.lemmas.List.Elements.{Contains-append_right}
 use Rattle.rc_keys.specs.declared.fault.Fault.{Fault as Failure}
 use Rattle.rc_keys.specs.declared.fault.Fault.TheVariants as failure
-use Rattle.rc_keys.specs.declared.fault.Refusal.{Refusal}
-use Rattle.rc_rules.specs.RuleFile.{RuleFile}
 use Rattle.rc_layout.specs.Layouts.{Wired}
 use Rattle.rc_spef.specs.declared.value.Spef.{Spef}
 use Rattle.rc_spef.specs.Rows.{spef_outcome}
@@ -15,7 +13,7 @@ use Rattle.rc_engine.specs.Extraction.{extraction}
 use Rattle.rc_cli.specs.declared.stages.Placed.{Placed}
 use Rattle.rc_cli.specs.declared.stop.Stop.{Stop}
 use Rattle.rc_cli.specs.declared.stop.Stop.TheVariants.{Refused, Fault, NoMemory}
-use Rattle.rc_cli.specs.Command.{Inputs, Task, Extract, Verify, Request, spef_word, task_words, file_words}
+use Rattle.rc_cli.specs.Command.{Task, Extract, Verify, Request, spef_word, task_words, file_words}
 use Rattle.rc_cli.specs.Lines.{names_of}
 use Rattle.rc_cli.specs.Outcome as course
 use Rattle.rc_cli.specs.Outcome.{Texts, Course, Done, Reply, proceed, unless_refused, read_file, layout, extracted, written, compared, reply, outcome, passes_for}

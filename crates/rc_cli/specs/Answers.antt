@@ -1,9 +1,9 @@
 -- What each status of a run says of its sinks, and why it may come.
-use Rattle.std.specs.Prelude.{ℕ, ◌≡◌, ◌≤◌, ◌⊎◌, Bool, false, true, IsTrue, List, ◌++◌, Option, Some, None, Contains, if◌then◌else◌}
+use Rattle.std.specs.Prelude.{ℕ, ◌≡◌, ◌⊎◌, Bool, IsTrue, List, Option, Some, None, Contains, if◌then◌else◌}
 use Rattle.std.specs.Str.{bytes_eq}
 use Rattle.rc_io.specs.Causes.{Rose}
 use Rattle.rc_io.specs.Bytes.{grown, GrewByPrefix}
-use Rattle.rc_cli.specs.Command.{Task, Verify, Request, request_of, file_words}
+use Rattle.rc_cli.specs.Command.{Verify, Request, request_of, file_words}
 use Rattle.rc_cli.specs.Lines.{usage_line, no_memory_line, read_fault_line}
 use Rattle.rc_cli.specs.Outcome.{Texts, Course, Missing, Refused, Done, Reply, outcome}
 

@@ -1,5 +1,5 @@
 -- What is known of outcomes.
-use Rattle.std.specs.Prelude.{ℕ, ◌≡◌, List, ◌∷◌, Option, Some}
+use Rattle.std.specs.Prelude.{ℕ, ◌≡◌, List, ◌∷◌, Some}
 use Rattle.rc_cli.specs.Command.{Request, request_of}
 use Rattle.rc_cli.specs.Outcome.{Texts, outcome}
 

@@ -1,6 +1,5 @@
 -- What a run comes to, from what its words ask for and from what the files hold.
-use Rattle.std.specs.Prelude.{ℕ, ◌-◌, ◌*◌, ◌^◌, Bool, true, false, List, ◌++◌, Option, Some, None, Result, Ok, Err, length, fold, is_some, nat_lt, if◌then◌else◌}
-use Rattle.std.specs.Str.{bytes_eq}
+use Rattle.std.specs.Prelude.{ℕ, ◌-◌, ◌*◌, ◌^◌, Bool, false, List, Option, Some, None, Result, Ok, Err, length, fold, is_some, nat_lt, if◌then◌else◌}
 use Rattle.rc_keys.specs.declared.code.Code.TheVariants.{E08}
 use Rattle.rc_keys.specs.declared.code.Quantity.TheVariants.{Bytes}
 use Rattle.rc_keys.specs.declared.fault.Refusal.{Refusal}
@@ -8,7 +7,6 @@ use Rattle.rc_keys.specs.declared.fault.Refusal.TheVariants.{At, Limit}
 use Rattle.rc_lef.specs.declared.units.Units.{Units}
 use Rattle.rc_lef.specs.Technology.{Technology, no_technology}
 use Rattle.rc_lef.specs.Rows.{lef_outcome}
-use Rattle.rc_def.specs.declared.design.RawDesign.{RawDesign}
 use Rattle.rc_def.specs.File.{def_outcome}
 use Rattle.rc_rules.specs.Rows.{rules_outcome}
 use Rattle.rc_layout.specs.Layouts.{linked}

@@ -1,5 +1,5 @@
 -- Why the work of a run stops, stage by stage.
-use Rattle.std.specs.Prelude.{ℕ, ◌≡◌, ◌<◌, ◌≤◌, true, IsTrue, List, Option, Some, Contains, length}
+use Rattle.std.specs.Prelude.{ℕ, ◌≡◌, ◌<◌, ◌≤◌, true, IsTrue, List, Some, Contains, length}
 use Rattle.rc_io.specs.Causes.{Rose}
 use Rattle.rc_keys.specs.declared.code.Quantity.TheVariants.{Bytes}
 use Rattle.rc_keys.specs.declared.fault.Fault.{Fault as Failure}

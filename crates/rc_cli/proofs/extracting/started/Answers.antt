@@ -1,6 +1,5 @@
 -- A layout that the engine takes is one that nothing refuses.
-use Rattle.std.proofs.Common.{◌≡◌, ap, ◌∙◌, sym}
-use Rattle.std.specs.Prelude.{None}
+use Rattle.std.proofs.Common.{ap, ◌∙◌, sym}
 use Rattle.rc_engine.specs.Start.{start_refusal}
 use Rattle.rc_cli.proofs.Replies.{start-accepts, start-refuses, drew, drew_within}
 use Rattle.rc_cli.proofs.extracting.started.Goals as goal

@@ -1,8 +1,7 @@
 -- One more LEF file is read, or it stops the work.
-use Rattle.std.proofs.Common.{◌+◌, ℕ, arith, sym, ap}
+use Rattle.std.proofs.Common.{arith, ap}
 use Rattle.std.specs.String.{string_bytes}
-use Rattle.rc_lef.specs.Technology.{Technology}
-use Rattle.rc_cli.specs.Answers.{Shelf, shelf}
+use Rattle.rc_cli.specs.Answers.{shelf}
 use Rattle.rc_cli.proofs.Courses.{keeps-same, keeps-then}
 use Rattle.rc_cli.proofs.Progress.{lef-begins, lef-stops, lef-done}
 use Rattle.rc_cli.proofs.stages.read_technology.Goals as goal
