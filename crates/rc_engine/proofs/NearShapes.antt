@@ -1,6 +1,6 @@
 -- What the windows that an edit touches have near the new shapes is all that is near them.
-use Rattle.std.proofs.Common.{◌≡◌, ◌≢◌, ◌<◌, ◌≤◌, ◌+◌, ◌-◌, ◌^◌, ⊎_elim, ℕ, ℤ, ◌≤ℤ◌, ◌<ℤ◌, zero, suc, Bool, true, false, cond, not, List, [], ◌∷◌, ◌++◌, map, length, get_or, take, refl, ap, sym, subst, ◌∙◌, arith}
-use Rattle.std.specs.Prelude.{All, Any, Contains, Option, Some, None, ◌==◌, ◌&&◌, filter, IfSome, MatchOption, option_map, slice_get}
+use Rattle.std.proofs.Common.{◌≡◌, ◌≢◌, ◌<◌, ◌≤◌, ◌+◌, ◌-◌, ⊎_elim, ℕ, zero, suc, Bool, true, false, cond, List, [], ◌∷◌, ◌++◌, map, length, get_or, take, refl, ap, sym, subst, ◌∙◌, arith}
+use Rattle.std.specs.Prelude.{All, Contains, Option, Some, None, ◌==◌, IfSome, MatchOption, option_map, slice_get}
 use Rattle.std.specs.List.{cons_option, enumerate_from, filter_map, flat_map, list_any, range_with_len}
 use Rattle.std.specs.Option.{option_and_then}
 use Rattle.std.proofs.lemmas.Bool.{and_parts, and_from, eq-eqb, ne_eqb, true≢false, cases_lt}
@@ -15,7 +15,7 @@ use Rattle.rc_fixed.proofs.Members.{none_in, at_head, in_tail, head_or_tail, map
 use Rattle.rc_geom.specs.declared.rect.Pt.{Pt}
 use Rattle.rc_geom.specs.declared.rect.Rect.{Rect}
 use Rattle.rc_geom.specs.declared.tile.Tile.{Tile}
-use Rattle.rc_geom.specs.Rects.{covers, touches, grow}
+use Rattle.rc_geom.specs.Rects.{covers, touches}
 use Rattle.rc_geom.specs.Plane.{Metal, claims, owner}
 use Rattle.rc_geom.proofs.Bounds.{covered, covers_from}
 use Rattle.rc_geom.specs.Laws.{IsOwner}
@@ -39,7 +39,6 @@ use Rattle.rc_shorts.specs.OfLayouts.{metal_of, net_metal, layout_shapes}
 use Rattle.rc_shorts.specs.Places.{shape_of, net_shapes}
 use Rattle.rc_shorts.proofs.Neighbours.{windows_hold_near}
 use Rattle.rc_windows.specs.declared.frame.Frame.{Frame}
-use Rattle.rc_windows.specs.Axes.{lowest, highest}
 use Rattle.rc_windows.specs.Frames.{all_squares, meets, touched, window_count, window_rect, IsFrame}
 use Rattle.rc_windows.specs.Indexes.{near_tiles}
 use Rattle.rc_windows.proofs.Meetings.{meets_shares}
@@ -47,9 +46,9 @@ use Rattle.rc_windows.proofs.Partition.{windows_part_squares}
 use Rattle.rc_engine.specs.Engine.{Engine, IsEngine}
 use Rattle.rc_engine.specs.Nearby.{item_in, shape_beside, shapes_beside, tile_shape}
 use Rattle.rc_engine.specs.Start.{net_rects}
-use Rattle.rc_engine.specs.Windows.{tiles_of, layout_tiles, IsExtractable}
+use Rattle.rc_engine.specs.Windows.{tiles_of, layout_tiles}
 use Rattle.rc_engine.proofs.Alike.{alike_in}
-use Rattle.rc_engine.proofs.Corners.{HasCorner, square_by, has_corners, in_halo}
+use Rattle.rc_engine.proofs.Corners.{square_by, has_corners, in_halo}
 use Rattle.rc_engine.proofs.Drawn.{IsDrawn, net_is_drawn}
 use Rattle.rc_engine.proofs.Sweepable.{net_of_tile, net_tile}
 use Rattle.rc_engine.proofs.OwnWindows.{range_long}

@@ -1,6 +1,5 @@
 -- The first short with the net, or none.
-use Rattle.std.proofs.Common.{◌≡◌, ◌∙◌, List, refl, subst, sym}
-use Rattle.std.specs.Prelude.{Option}
+use Rattle.std.proofs.Common.{◌∙◌, List, refl, subst, sym}
 use Rattle.rc_layout.specs.Layouts.{with_put}
 use Rattle.rc_shorts.specs.declared.shape.Shape.{Shape}
 use Rattle.rc_shorts.specs.Exchange.{AreNear}

@@ -1,6 +1,6 @@
 -- What the paths make of the net, and what refuses it.
-use Rattle.std.proofs.Common.{◌≡◌, ◌∙◌, ◌<◌, ◌≤◌, ◌^◌, length, ap, sym, subst, arith}
-use Rattle.std.specs.Prelude.{Ok, Err, None, slice_get}
+use Rattle.std.proofs.Common.{◌≡◌, ◌∙◌, ◌<◌, length, sym, subst, arith}
+use Rattle.std.specs.Prelude.{Ok, None}
 use Rattle.rc_layout.specs.Layouts.{with_put}
 use Rattle.rc_shorts.specs.Exchange.{AreNear}
 use Rattle.rc_shorts.specs.OfLayouts.{layout_shapes, net_metal}
