@@ -1,5 +1,5 @@
 -- What an edit of an engine's layout changes: the windows that it touches, and nothing else.
-use Rattle.std.proofs.Common.{◌≡◌, ◌<◌, ◌≤◌, ◌+◌, ◌^◌, ◌⊎◌, inl, inr, ⊎_elim, ℕ, List, [], ◌∷◌, ◌++◌, map, length, get_or, set, refl, ap, sym, subst, ◌∙◌, arith, length-set}
+use Rattle.std.proofs.Common.{◌≡◌, ◌<◌, ◌≤◌, ◌^◌, ◌⊎◌, inl, inr, ⊎_elim, ℕ, List, [], ◌∷◌, ◌++◌, map, length, get_or, set, refl, ap, sym, subst, ◌∙◌, arith, length-set}
 use Rattle.std.specs.Prelude.{All, Contains, IfOk, Some, Result, Ok, Err, fold, nat_lt, slice_get}
 use Rattle.std.specs.List.{sum_by, flat_map, enumerate_from}
 use Rattle.std.specs.List.Sorted.{IsStrictlyIncreasing}
@@ -29,7 +29,7 @@ use Rattle.rc_layout.specs.Layouts.{Wired, with_put}
 use Rattle.rc_layout.specs.Nets.{IsTied}
 use Rattle.rc_nodes.specs.Nodes.{nodes_of}
 use Rattle.rc_nodes.specs.LayoutPlane.{DrawnNet, own_net, grounded_net, drawn_nets}
-use Rattle.rc_nodes.proofs.Bounded.{all_from, tiles_few, tiles_grounded}
+use Rattle.rc_nodes.proofs.Bounded.{tiles_few, tiles_grounded}
 use Rattle.rc_nodes.proofs.Numbered.{nodes_are}
 use Rattle.rc_sweep.specs.declared.window.Window.{Window}
 use Rattle.rc_windows.specs.declared.frame.Frame.{Frame}

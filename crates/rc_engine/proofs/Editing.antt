@@ -1,10 +1,9 @@
 -- What an edit leads to, and what refuses it.
-use Rattle.std.proofs.Common.{◌≡◌, ◌<◌, ◌≤◌, ◌+◌, ◌-◌, ◌^◌, ℕ, zero, suc, List, [], ◌∷◌, ◌++◌, length, refl, ap, sym, subst, ◌∙◌, arith}
-use Rattle.std.specs.Prelude.{All, Option, Some, None, Ok, Err, nat_le, slice_get}
+use Rattle.std.proofs.Common.{◌≡◌, ◌<◌, ◌+◌, ◌-◌, ◌^◌, ℕ, zero, suc, List, [], ◌∷◌, length, refl, ap, sym, ◌∙◌, arith}
+use Rattle.std.specs.Prelude.{Some, None, Ok, Err, nat_le, slice_get}
 use Rattle.rc_keys.specs.declared.code.Quantity.TheVariants.{Shapes}
 use Rattle.rc_keys.specs.declared.fault.Fault.{Fault}
 use Rattle.rc_keys.specs.declared.fault.Fault.TheVariants.{Refused, NoMemory}
-use Rattle.rc_keys.specs.declared.fault.Refusal.{Refusal}
 use Rattle.rc_keys.specs.declared.fault.Refusal.TheVariants.{Limit}
 use Rattle.rc_wire.specs.declared.path.RawPath.{RawPath}
 use Rattle.rc_rules.specs.RuleFile.{RuleFile}

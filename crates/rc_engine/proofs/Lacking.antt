@@ -1,5 +1,5 @@
 -- What refuses a layout with one net in the place of another, where nothing refuses the layout before.
-use Rattle.std.proofs.Common.{◌≡◌, ◌<◌, ◌≤◌, ◌+◌, ◌-◌, ◌^◌, ⊎_elim, ℕ, Bool, true, false, cond, List, [], ◌∷◌, ◌++◌, map, length, get_or, set, refl, ap, sym, subst, ◌∙◌, arith}
+use Rattle.std.proofs.Common.{◌≡◌, ◌≤◌, ◌+◌, ◌^◌, ⊎_elim, ℕ, Bool, true, false, cond, List, [], ◌∷◌, ◌++◌, map, length, get_or, set, refl, ap, sym, subst, ◌∙◌, arith}
 use Rattle.std.specs.Prelude.{All, Contains, Option, Some, None, fold, min, option_map, slice_get}
 use Rattle.std.specs.List.{flat_map, sum_by}
 use Rattle.std.specs.Option.{option_or}
@@ -7,7 +7,7 @@ use Rattle.std.proofs.lemmas.List.Elements.{All-contains, All-set, Contains-appe
 use Rattle.std.proofs.lemmas.List.Sums.{fold-append, sum_by-set, get_or-le-sum_by}
 use Rattle.std.proofs.lemmas.Option.{get_or_from_slice_get, slice_get_within}
 use Rattle.std.proofs.lemmas.Grind.{flat_map-append}
-use Rattle.rc_fixed.proofs.Members.{none_in, at_head, in_tail, head_or_tail, flat_map_has, in_flat_map, in_map}
+use Rattle.rc_fixed.proofs.Members.{none_in, at_head, in_tail, head_or_tail, flat_map_has, in_flat_map}
 use Rattle.rc_keys.specs.declared.code.Quantity.TheVariants.{Nodes, Tiles}
 use Rattle.rc_keys.specs.declared.fault.Refusal.{Refusal}
 use Rattle.rc_rules.specs.RuleFile.{RuleFile}
@@ -21,7 +21,7 @@ use Rattle.rc_nodes.specs.Counts.{tile_count}
 use Rattle.rc_nodes.specs.Nodes.{nodes_of}
 use Rattle.rc_nodes.specs.LayoutPlane.{DrawnNet, own_net, drawn_nets}
 use Rattle.rc_engine.specs.Measured.{nodes_with, tiles_with, limit_with}
-use Rattle.rc_engine.specs.Start.{lesser, least_step, least_lacking, lacks_block, lacks_cut, no_layer, net_layers, net_cuts, place_cuts, layers_in_use, cuts_in_use, net_missing, missing_rules, limit_refusal, above, node_count, tile_total, tiles_counted, first_short_refusal, start_refusal}
+use Rattle.rc_engine.specs.Start.{lesser, least_step, least_lacking, lacks_block, lacks_cut, no_layer, net_layers, net_cuts, place_cuts, layers_in_use, cuts_in_use, net_missing, missing_rules, limit_refusal, above, node_count, tile_total, tiles_counted}
 use Rattle.rc_engine.specs.Windows.{HasRatedItems}
 use Rattle.rc_nodes.proofs.Bounded.{all_from}
 use Rattle.rc_engine.proofs.Drawings.{own_at, drawn_length}

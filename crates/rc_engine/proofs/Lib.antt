@@ -26,3 +26,5 @@ pub mod OwnWindows
 pub mod NameLists
 pub mod Editing
 pub mod Accepting
+pub mod Corners
+pub mod NearShapes

@@ -1,15 +1,15 @@
 -- A net has entries in the windows that its shapes touch, and in no others.
-use Rattle.std.proofs.Common.{◌≡◌, ◌≢◌, ◌<◌, ◌≤◌, ◌+◌, inl, inr, ⊎_elim, ℕ, suc, zero, Bool, true, false, cond, not, List, [], ◌∷◌, ◌++◌, map, length, get_or, take, refl, ap, sym, subst, ◌∙◌, arith}
-use Rattle.std.specs.Prelude.{All, Any, Contains, IfOk, IfSome, Option, Some, None, Result, Ok, Err, ◌==◌, filter, slice_get}
+use Rattle.std.proofs.Common.{◌≡◌, ◌≢◌, ◌<◌, ◌≤◌, ◌+◌, inl, inr, ℕ, suc, zero, Bool, true, false, cond, not, List, [], ◌∷◌, ◌++◌, map, length, get_or, take, refl, ap, sym, subst, ◌∙◌, arith}
+use Rattle.std.specs.Prelude.{Contains, IfOk, IfSome, Option, Some, None, Result, Ok, Err, ◌==◌, filter, slice_get}
 use Rattle.std.specs.List.{cons_option, enumerate_from, filter_map, flat_map, list_any, range_with_len}
 use Rattle.std.specs.Option.{option_map_or}
 use Rattle.std.proofs.lemmas.Bool.{ne_eqb, eq-eqb, true≢false}
 use Rattle.std.proofs.lemmas.List.{append_assoc, append-nil, get_or_default, get_or-map, length-map, take_all, take_more}
-use Rattle.std.proofs.lemmas.List.Elements.{All-contains, Contains-get_or, filter_map-append}
+use Rattle.std.proofs.lemmas.List.Elements.{Contains-get_or, filter_map-append}
 use Rattle.std.proofs.lemmas.List.FromFn.{get_or-enumerate_from, get_or-range_with_len, length-enumerate_from}
 use Rattle.std.proofs.lemmas.Grind.{flat_map-append}
 use Rattle.std.proofs.lemmas.Option.{get_or_from_slice_get, slice_get-get_or, slice_get_within}
-use Rattle.rc_fixed.proofs.Members.{none_in, at_head, in_tail, in_filter}
+use Rattle.rc_fixed.proofs.Members.{at_head, in_tail, in_filter}
 use Rattle.rc_geom.specs.declared.key.Key.{Key}
 use Rattle.rc_geom.specs.declared.key.Key.TheVariants.{Ground, Pair}
 use Rattle.rc_geom.specs.declared.rect.Pt.{Pt}
@@ -30,9 +30,8 @@ use Rattle.rc_rules.specs.RuleFile.{RuleFile, HasRules}
 use Rattle.rc_rules.specs.LookUp.{rates, halo_of}
 use Rattle.rc_layout.specs.declared.net.Net.{Net}
 use Rattle.rc_layout.specs.Layouts.{Wired}
-use Rattle.rc_nodes.specs.LayoutPlane.{own_net}
 use Rattle.rc_windows.specs.declared.frame.Frame.{Frame}
-use Rattle.rc_windows.specs.Frames.{meets, window_count, window_rect, touched, IsFrame}
+use Rattle.rc_windows.specs.Frames.{meets, window_count, window_rect, touched}
 use Rattle.rc_windows.specs.Indexes.{near_tiles, others_of}
 use Rattle.rc_windows.specs.Laws.{LieIn, IsEdit}
 use Rattle.rc_windows.specs.Sweeps.{IsTallyOf}
@@ -44,10 +43,10 @@ use Rattle.rc_spef.specs.declared.value.DNet.{DNet}
 use Rattle.rc_engine.specs.Extraction.{extraction, net_value}
 use Rattle.rc_engine.specs.Engine.{Engine, IsEngine}
 use Rattle.rc_engine.specs.Start.{net_rects}
-use Rattle.rc_engine.specs.Windows.{layout_tiles, window_of, windows_of, IsExtractable}
+use Rattle.rc_engine.specs.Windows.{layout_tiles, window_of, IsExtractable}
 use Rattle.rc_engine.proofs.KeysOfTiles.{metal_tile}
 use Rattle.rc_engine.proofs.Sweepable.{tiles_are_sweepable, windows_count}
-use Rattle.rc_engine.proofs.Swapped.{filter_all, filter_none, kept_by, own_lies_in}
+use Rattle.rc_engine.proofs.Swapped.{filter_all, own_lies_in}
 use Rattle.rc_engine.proofs.WindowSums.{Entries, halo_reaches, tally_at}
 
 -- ---- a window that the net doesn't touch

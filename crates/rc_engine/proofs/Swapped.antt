@@ -1,11 +1,11 @@
 -- A layout with one net in the place of another: its nets as they are drawn, and their tiles.
-use Rattle.std.proofs.Common.{◌≡◌, ◌≢◌, ◌<◌, ◌≤◌, ◌+◌, ⊎_elim, ℕ, zero, suc, Bool, true, false, cond, not, List, [], ◌∷◌, ◌++◌, map, length, get_or, set, refl, ap, sym, subst, ◌∙◌, arith, length-set}
-use Rattle.std.specs.Prelude.{All, Any, Contains, Option, Some, ◌==◌, filter, slice_get}
+use Rattle.std.proofs.Common.{◌≡◌, ◌≢◌, ◌<◌, ◌+◌, ⊎_elim, ℕ, zero, suc, Bool, true, false, cond, not, List, [], ◌∷◌, ◌++◌, map, length, get_or, set, refl, ap, sym, subst, ◌∙◌, arith, length-set}
+use Rattle.std.specs.Prelude.{Any, Contains, Option, Some, ◌==◌, filter, slice_get}
 use Rattle.std.specs.List.{enumerate_from, flat_map, sum_by}
 use Rattle.std.specs.Option.{option_map_or}
 use Rattle.std.proofs.lemmas.Bool.{ne_eqb, eq-eqb}
 use Rattle.std.proofs.lemmas.List.{map-set, get_or-set_same}
-use Rattle.std.proofs.lemmas.List.Elements.{All-contains, filter-append, Contains-append_left, Contains-append_right, Contains-append_cases}
+use Rattle.std.proofs.lemmas.List.Elements.{filter-append, Contains-append_left, Contains-append_right, Contains-append_cases}
 use Rattle.std.proofs.lemmas.List.Sums.{sum_by-append}
 use Rattle.std.proofs.lemmas.Option.{get_or_from_slice_get, slice_get_within, slice_get-get_or}
 use Rattle.std.proofs.lemmas.Grind.{flat_map-append}
@@ -27,8 +27,8 @@ use Rattle.rc_engine.specs.Edits.{rects_of}
 use Rattle.rc_engine.specs.Windows.{tiles_of, layout_tiles, IsExtractable}
 use Rattle.rc_engine.proofs.Drawings.{own_at, drawn_length}
 use Rattle.rc_engine.proofs.Rises.{Rises}
-use Rattle.rc_engine.proofs.Drawn.{IsDrawn, IsLower, net_is_drawn, nets_rise}
-use Rattle.rc_engine.proofs.Sweepable.{IsNetTile, net_tile, covers_outer}
+use Rattle.rc_engine.proofs.Drawn.{IsLower, net_is_drawn, nets_rise}
+use Rattle.rc_engine.proofs.Sweepable.{net_tile, covers_outer}
 
 -- ---- an item of a list in the place of another
 

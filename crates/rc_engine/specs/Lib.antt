@@ -9,5 +9,6 @@ pub mod Start
 pub mod Measured
 pub mod Engine
 pub mod Edits
+pub mod Nearby
 pub mod WindowLaws
 pub mod Fits

@@ -10,7 +10,9 @@ ghost use Rattle.rc_nodes.specs.Counts.{tile_count as tile_count_of};
 ghost use Rattle.rc_nodes.specs.Shares.{net_tiles};
 ghost use Rattle.rc_nodes.specs.LayoutPlane.{drawn_nets};
 ghost use Rattle.rc_shorts.specs.Shorts.{first_short};
-ghost use Rattle.rc_shorts.specs.OfLayouts.{layout_shapes, HasFewItems};
+ghost use Rattle.rc_shorts.specs.Exchange.{AreNear};
+ghost use Rattle.rc_shorts.specs.OfLayouts.{layout_shapes, net_metal, HasFewItems};
+ghost use Rattle.rc_shorts.specs.Places.{net_shapes as net_shapes_of};
 ghost use Rattle.rc_engine.specs.Measured.{HasTooManyNodes, nodes_with, tiles_with, limit_with};
 ghost use Rattle.rc_engine.specs.Windows.{IsExtractable};
 ghost use Rattle.rc_engine.specs.Start.{node_count as node_count_of, tile_total as tile_total_of, first_short_refusal, start_refusal, IsStartFault, IsRefusal};
@@ -18,13 +20,14 @@ ghost use Rattle.rc_engine.specs.Start.{node_count as node_count_of, tile_total 
 use crate::accept::short_refusal;
 use crate::measured::{MOST_NODES, add_tiles};
 use crate::missing::net_missing;
+use crate::nearby::net_shapes;
 use rc_fixed::List;
 use rc_geom::Tile;
 use rc_keys::Fault;
 use rc_layout::{Layout, Net};
 use rc_nodes::{Node, nodes, tile_count};
 use rc_rules::Rules;
-use rc_shorts::short_with;
+use rc_shorts::{Shape, short_near};
 use std::alloc::Global;
 
 /// How many nodes all nets have that aren't grounded, and how many tiles all nets count against their limit.
@@ -107,22 +110,33 @@ fn measured_with(
     })
 }
 
-/// Refuses a layout with a net in the place of another one where it has a short.
-fn refuse_short_with(alloc: Global, layout: &Layout, number: u32, new: &Net) -> Result<(), Fault>
+/// Refuses a layout with a net in the place of another one where it has a short. `near` are shapes of other nets, and all of
+/// those that meet a new shape are among them.
+fn refuse_short_with(
+    alloc: Global,
+    layout: &Layout,
+    number: u32,
+    new: &Net,
+    near: &[Shape],
+) -> Result<(), Fault>
     requires number { number < length layout.now.nets }
     requires clear { first_short (layout_shapes layout.now) ≡ None }
     requires new { HasFewItems new.now }
+    requires near { AreNear (layout_shapes layout.now) number (net_shapes_of number (net_metal new.now)) near.now }
     ensures clear { IfOk result (λ _. first_short_refusal (with_put layout.now number new.now) ≡ None) }
     ensures fault { IfErr result (IsRefusal (first_short_refusal (with_put layout.now number new.now))) }
 {
-    match short_with(alloc, layout, number, new)? {
+    let _ = layout;
+    let fresh = net_shapes(alloc, number, new)?;
+    match short_near(alloc, &fresh, near)? {
         Some(short) => Err(Fault::Refused(short_refusal(&short))),
         None => Ok(()),
     }
 }
 
 /// The nodes and the tiles of a net that takes the place of another one, where nothing refuses the layout with it. Nothing
-/// refuses the layout as it stands, and it has those totals.
+/// refuses the layout as it stands, and it has those totals. `near` are shapes of other nets, and all of those that meet a new
+/// shape are among them.
 ///
 /// # Errors
 ///
@@ -135,6 +149,7 @@ pub fn accepted_with(
     number: u32,
     old_nodes: &[Node],
     new: &Net,
+    near: &[Shape],
 ) -> Result<Metal, Fault>
     requires number { number < length layout.now.nets }
     requires candidate { (old : NetOf) → slice_get layout.now.nets number ≡ Some old → IsCandidate layout.now old new.now }
@@ -143,6 +158,7 @@ pub fn accepted_with(
     requires accepted { start_refusal layout.now rules.now ≡ None }
     requires nodes { totals.now.nodes ≡ node_count_of layout.now.nets }
     requires tiles { totals.now.tiles ≡ tile_total_of (drawn_nets layout.now) }
+    requires near { AreNear (layout_shapes layout.now) number (net_shapes_of number (net_metal new.now)) near.now }
     ensures nodes { IfOk result (λ metal. metal.nodes ≡ nodes_of new.now) }
     ensures tiles { IfOk result (λ metal. metal.tiles ≡ net_tiles number (nodes_of new.now) new.now.items) }
     ensures node_count { IfOk result (λ metal. metal.totals.nodes ≡ node_count_of (with_put layout.now number new.now).nets) }
@@ -161,7 +177,7 @@ pub fn accepted_with(
         Ok(metal) => metal,
         Err(fault) => return Err(fault),
     };
-    match refuse_short_with(alloc, layout, number, new) {
+    match refuse_short_with(alloc, layout, number, new, near) {
         Ok(()) => Ok(metal),
         Err(fault) => Err(fault),
     }

@@ -7,10 +7,14 @@ ghost use Rattle.rc_geom.specs.Sums.{numbers};
 ghost use Rattle.rc_tally.specs.Tallies.{IsRising};
 ghost use Rattle.rc_wire.specs.Forms.{IsRegular};
 ghost use Rattle.rc_rules.specs.LookUp.{rates, halo_of};
+ghost use Rattle.rc_layout.specs.Items.{IsItem};
 ghost use Rattle.rc_layout.specs.Layouts.{with_put};
 ghost use Rattle.rc_nodes.specs.Nodes.{nodes_of};
 ghost use Rattle.rc_nodes.specs.LayoutPlane.{drawn_nets};
 ghost use Rattle.rc_nodes.specs.Shares.{net_tiles};
+ghost use Rattle.rc_shorts.specs.Exchange.{AreNear};
+ghost use Rattle.rc_shorts.specs.OfLayouts.{layout_shapes, net_metal};
+ghost use Rattle.rc_shorts.specs.Places.{net_shapes};
 ghost use Rattle.rc_windows.specs.Frames.{window_count, IsFrame};
 ghost use Rattle.rc_windows.specs.Indexes.{near_lists};
 ghost use Rattle.rc_windows.specs.Sweeps.{AreTalliesOf};
@@ -28,16 +32,18 @@ use crate::candidate::{Metal, Totals, accepted_with};
 use crate::cap::capacitances;
 use crate::gather::gathered;
 use crate::naming::Naming;
+use crate::nearby::shapes_near;
 use crate::net::{net_of, value_of};
 use crate::net_names::NetNames;
 use crate::sweeping::{WindowSums, swept};
-use crate::touching::{Resweep, rects, sweep_touched};
+use crate::touching::{Resweep, rects, sweep_touched, touched_by};
 use rc_fixed::{List, NoMemory};
 use rc_geom::Tile;
 use rc_keys::Fault;
 use rc_layout::{Layout, Net};
 use rc_nodes::Node;
 use rc_rules::Rules;
+use rc_shorts::Shape;
 use rc_spef::{DNet, Spef};
 use rc_sweep::Meter;
 use rc_tally::{Entry, Tally};
@@ -280,6 +286,23 @@ impl Engine {
         }
     }
 
+    /// The shapes of other nets near a net that takes the place of another one: among them are all of those that meet a new shape.
+    fn near(&self, alloc: Global, number: u32, net: &Net) -> Result<List<Shape>, NoMemory>
+        requires number { number < length self.now.layout.nets }
+        requires items { All IsItem net.now.items }
+        ensures { IfOk result (AreNear (layout_shapes self.now.layout) number (net_shapes number (net_metal net.now))) }
+    {
+        let old = &self.layout.nets()[number as usize];
+        let windows = touched_by(alloc, &self.grid, old, net)?;
+        shapes_near(
+            alloc,
+            &self.layout,
+            self.index.lists(),
+            number,
+            windows.items(),
+        )
+    }
+
     /// The net of that number with other paths, its nodes and its tiles, where nothing refuses the layout with it.
     fn candidate(
         &self,
@@ -303,6 +326,7 @@ impl Engine {
             Err(fault) => return Err(fault),
         };
         let nodes = self.nodes.items()[number as usize].items();
+        let near = self.near(alloc, number, &net)?;
         match accepted_with(
             alloc,
             &self.layout,
@@ -311,6 +335,7 @@ impl Engine {
             number,
             nodes,
             &net,
+            near.items(),
         ) {
             Ok(metal) => Ok((net, metal)),
             Err(fault) => Err(fault),

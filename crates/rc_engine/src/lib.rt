@@ -15,6 +15,7 @@ pub mod laws;
 mod measured;
 mod missing;
 mod naming;
+mod nearby;
 mod net;
 mod net_names;
 mod resist;

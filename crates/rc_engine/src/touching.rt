@@ -55,7 +55,7 @@ fn windows_at(alloc: Global, grid: &Grid, list: &[u32]) -> Result<List<Window>, 
 }
 
 /// The windows that the old or the new items of a net touch.
-fn touched_by(alloc: Global, grid: &Grid, old: &Net, new: &Net) -> Result<List<u32>, NoMemory>
+pub fn touched_by(alloc: Global, grid: &Grid, old: &Net, new: &Net) -> Result<List<u32>, NoMemory>
     ensures list { IfOk result (λ list. list ≡ touched grid.now (net_rects old.now ++ net_rects new.now)) }
     ensures rising { IfOk result IsStrictlyIncreasing }
     ensures range { IfOk result (All (λ k. k < window_count grid.now)) }

@@ -1,6 +1,6 @@
 -- One tally more is set.
 use Rattle.std.proofs.Common.{◌≡◌, ◌+◌, ◌∷◌, [], ℕ, refl, ap, ◌∙◌, length, get_or, set, arith, length-append}
-use Rattle.rc_engine.proofs.Placing.{ArePut, put_more, rest_first, put_whole, all_set, all_kept}
+use Rattle.rc_engine.proofs.Placing.{put_more, rest_first, put_whole, all_set, all_kept}
 use Rattle.rc_engine.proofs.engine.set_tallies.Goals as goal
 
 pub loop-tally-preserved : goal.loop-tally-preserved

@@ -1,9 +1,6 @@
 -- The touched windows can be swept.
-use Rattle.std.proofs.Common.{◌∙◌, [], ℕ, ap, get_or, length, map, subst, sym, arith}
-use Rattle.std.specs.Prelude.{All}
-use Rattle.std.specs.List.Sorted.{IsStrictlyIncreasing}
+use Rattle.std.proofs.Common.{◌∙◌, [], ℕ, ap, get_or, length, map, arith}
 use Rattle.std.proofs.lemmas.List.{length-map}
-use Rattle.rc_windows.specs.Frames.{window_count}
 use Rattle.rc_windows.specs.Indexes.{changed_list}
 use Rattle.rc_engine.specs.Windows.{window_of}
 use Rattle.rc_engine.proofs.Edited.{windows_are_few}

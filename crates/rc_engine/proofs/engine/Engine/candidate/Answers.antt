@@ -1,7 +1,10 @@
 -- What the paths make of the net, and what refuses it.
-use Rattle.std.proofs.Common.{◌≡◌, ◌∙◌, ◌<◌, ◌≤◌, ◌^◌, length, ap, sym, subst, arith}
-use Rattle.std.specs.Prelude.{Ok, Err, None, slice_get}
+use Rattle.std.proofs.Common.{◌≡◌, ◌∙◌, ◌<◌, length, sym, subst, arith}
+use Rattle.std.specs.Prelude.{Ok, None}
 use Rattle.rc_layout.specs.Layouts.{with_put}
+use Rattle.rc_shorts.specs.Exchange.{AreNear}
+use Rattle.rc_shorts.specs.OfLayouts.{layout_shapes, net_metal}
+use Rattle.rc_shorts.specs.Places.{net_shapes}
 use Rattle.rc_engine.specs.Start.{IsRefusal}
 use Rattle.rc_engine.specs.Engine.{Engine}
 use Rattle.rc_engine.specs.Edits.{edited, edit_refusal, MayReplace}
@@ -49,3 +52,13 @@ returns-in-Err-accepted_with-clause-fault c =
     subst (λ (e : Engine). IsRefusal (edit_refusal e.layout e.rules c.args.number c.args.paths.now) c.in-Err-accepted_with.fault) c.self.view_is
     (start_refuses c.self.inside.layout (with_put c.self.inside.layout c.args.number c.in-Ok.net) c.self.inside.rules c.args.number c.args.paths.now c.in-Err-accepted_with.fault
     (edited_is c.self.inside.layout c.args.number c.args.paths.now old.0 (Ok c.in-Ok.net) old.1 (c.in-Ok.ensures.is old.0 old.1)) c.in-Err-accepted_with.ensures.fault)
+
+pub near-requires-clause-items : goal.near-requires-clause-items
+near-requires-clause-items c =
+    let old = found_net c.self.inside.layout.nets c.args.number (subst (λ (e : Engine). c.args.number < length e.layout.nets) (sym c.self.view_is) c.requires.number) in
+    (c.in-Ok.ensures.fits old.0 old.1).tied.formed.items
+
+pub accepted_with-requires-clause-near : goal.accepted_with-requires-clause-near
+accepted_with-requires-clause-near c =
+    subst (λ (e : Engine). AreNear (layout_shapes e.layout) c.args.number (net_shapes c.args.number (net_metal c.in-Ok.net)) c.items-2.result.now) (sym c.self.view_is)
+    (subst (AreNear (layout_shapes c.args.self.now.layout) c.args.number (net_shapes c.args.number (net_metal c.in-Ok.net))) (sym c.items-2.ensures) c.in_ok-near.ensures)

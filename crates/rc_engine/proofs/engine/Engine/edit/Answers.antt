@@ -1,5 +1,5 @@
 -- The windows are those of the edit.
-use Rattle.std.proofs.Common.{◌≡◌, ◌∙◌, ◌≤◌, ◌+◌, ◌*◌, ℕ, List, length, sym, subst}
+use Rattle.std.proofs.Common.{◌∙◌, ◌≤◌, ◌+◌, ◌*◌, ℕ, List, length, sym, subst}
 use Rattle.rc_layout.specs.Layouts.{with_put}
 use Rattle.rc_engine.proofs.Editing.{edit_windows_are}
 use Rattle.rc_engine.proofs.engine.Engine.edit.Goals as goal

@@ -1,13 +1,12 @@
 -- What a net has of the windows that it touches is what it has of all.
-use Rattle.std.proofs.Common.{◌≡◌, ◌∙◌, ◌<◌, ◌++◌, ℕ, List, [], length, map, ap, sym, subst, arith}
-use Rattle.std.specs.Prelude.{All, IfOk, slice_get, Some}
+use Rattle.std.proofs.Common.{◌∙◌, ◌<◌, ◌++◌, List, [], length, map, ap, sym, subst, arith}
+use Rattle.std.specs.Prelude.{All, slice_get}
 use Rattle.std.proofs.lemmas.List.{append-nil}
 use Rattle.rc_geom.specs.declared.rect.Rect.{Rect}
 use Rattle.rc_layout.specs.declared.item.Item.{Item}
 use Rattle.rc_windows.specs.Frames.{touched, window_count}
 use Rattle.rc_engine.specs.Brought.{entries_of, owned}
 use Rattle.rc_engine.specs.Engine.{Engine}
-use Rattle.rc_engine.specs.Extraction.{extraction}
 use Rattle.rc_engine.specs.Start.{net_rects}
 use Rattle.rc_engine.proofs.Accepting.{old_there}
 use Rattle.rc_engine.proofs.Edited.{tallies_long}

@@ -1,5 +1,5 @@
 -- An edit in its place leaves an engine.
-use Rattle.std.proofs.Common.{◌≡◌, ◌∙◌, ◌<◌, ◌≤◌, ℕ, List, length, map, set, ap, sym, subst, arith}
+use Rattle.std.proofs.Common.{◌≡◌, ◌∙◌, ◌<◌, List, length, map, set, ap, sym, subst, arith}
 use Rattle.std.specs.Prelude.{All, Some, slice_get}
 use Rattle.rc_layout.specs.declared.net.Net.{Net}
 use Rattle.rc_layout.specs.Facts.{IsCandidate}

@@ -1,5 +1,5 @@
 -- The touched windows of an engine can be swept, and are all that changes.
-use Rattle.std.proofs.Common.{◌≡◌, ◌∙◌, ◌<◌, ◌≤◌, ◌+◌, ◌*◌, ◌^◌, ℕ, List, [], get_or, length, ap, sym, subst}
+use Rattle.std.proofs.Common.{◌≡◌, ◌∙◌, ◌≤◌, ◌+◌, ◌*◌, ◌^◌, ℕ, List, [], get_or, length, ap, sym, subst}
 use Rattle.std.specs.Prelude.{IfOk, nat_lt}
 use Rattle.std.proofs.lemmas.Result.{IfOk-weaker}
 use Rattle.rc_geom.specs.declared.tile.Tile.{Tile}
@@ -7,7 +7,6 @@ use Rattle.rc_geom.specs.Sums.{numbers}
 use Rattle.rc_rules.specs.RuleFile.{HasRules}
 use Rattle.rc_rules.specs.LookUp.{rates}
 use Rattle.rc_layout.specs.Layouts.{with_put}
-use Rattle.rc_windows.specs.Frames.{touched}
 use Rattle.rc_windows.specs.Indexes.{changed_list}
 use Rattle.rc_windows.specs.Sweeps.{CanSweepBoth}
 use Rattle.rc_engine.specs.declared.touching.Resweep.{Resweep}
