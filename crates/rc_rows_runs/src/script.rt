@@ -75,7 +75,7 @@ impl Script {
         rt: &R,
         words: &str,
     ) -> anyhow::Result<()> {
-        let settings = core::mem::replace(&mut self.settings, Settings::new(rt.alloc()));
+        let settings = std::mem::replace(&mut self.settings, Settings::new(rt.alloc()));
         println!(rt; "{words}")?;
         let Some((first, others)) = settings.workers.split_first() else {
             let ending = self.ending(rt, &settings, words, "W")?;
@@ -121,7 +121,7 @@ impl Script {
         rt: &R,
         what: &str,
     ) -> anyhow::Result<()> {
-        let settings = core::mem::replace(&mut self.settings, Settings::new(rt.alloc()));
+        let settings = std::mem::replace(&mut self.settings, Settings::new(rt.alloc()));
         let Some((kind, rest)) = what.split_once(' ') else {
             bail!("calls of what?");
         };
