@@ -164,6 +164,25 @@ fn what_is_written_is_gathered(rt: HostRuntime) -> Result<(), Fail> {
     Ok(())
 }
 
+/// Many writes, of which some end in the middle of a piece, are held and handed on in their order.
+#[test]
+fn what_is_written_in_pieces_is_handed_on(rt: HostRuntime) -> Result<(), Fail> {
+    let mut pieces = Pieces::new(rt.alloc());
+    let mut gathered = Gather::new(rt.alloc());
+    let mut bytes = [0u8; 60_000];
+    for round in 0..40u8 {
+        bytes[0] = round;
+        bytes[59_999] = round + 100;
+        write_all(&mut pieces, &bytes)?;
+        write_all(&mut gathered, &bytes)?;
+    }
+    assert_eq!(rt; (pieces.len(), pieces.faults()), (2_400_000, 0));
+    let mut handed = Gather::new(rt.alloc());
+    pieces.write_to(&mut handed)?;
+    assert!(rt; handed.bytes() == gathered.bytes());
+    Ok(())
+}
+
 /// The names and rooms at which no file is read, the end of each, and the count of faults after it.
 #[test]
 fn real_files_are_read(rt: HostRuntime) -> Result<(), Fail> {
