@@ -1,6 +1,6 @@
 //! The engine: a layout with the sums of all its windows.
 
-ghost use Rattle.std.specs.Prelude.{◌≡◌, ◌<◌, ◌≤◌, ◌+◌, ◌*◌, ◌^◌, ℕ, Ok, Some, None, IfOk, IfErr, IfSome, OnOk, OnErr, All, Contains, length, map, position, slice_get, slice_index};
+ghost use Rattle.std.specs.Prelude.{◌≡◌, ◌<◌, ◌≤◌, ◌+◌, ◌*◌, ◌^◌, ℕ, Ok, Some, None, IfOk, IfErr, IfSome, IsSome, OnOk, OnErr, All, Contains, length, map, position, slice_get, slice_index};
 ghost use Rattle.std.specs.List.Sorted.{IsStrictlyIncreasing};
 ghost use Rattle.std.specs.Str.{bytes_eq};
 ghost use Rattle.rc_geom.specs.Sums.{numbers};
@@ -402,6 +402,7 @@ impl Engine {
         ensures fault { IfErr result (IsRefusal (edit_refusal self.now.layout self.now.rules number paths.now)) }
         ensures ok { IfOk result (λ edit. M.drawn meter.new ≡ M.drawn meter.old + 2 * length edit.swept.windows) }
         ensures none { IfErr result (DrawsNone (M.drawn meter.old) (M.drawn meter.new)) }
+        ensures refused_draws_none { IsSome (edit_refusal self.now.layout self.now.rules number paths.now) → M.drawn meter.new ≡ M.drawn meter.old }
         ensures least { M.drawn meter.old ≤ M.drawn meter.new }
         ensures spent { M.drawn meter.new ≤ M.drawn meter.old + 2 * length (edit_windows self.now.frame self.now.layout number paths.now) }
     {
@@ -460,7 +461,8 @@ impl Engine {
     /// # Errors
     ///
     /// The first refusal of the paths, or of the limit of shapes of the layout with them; then the first of: a layer in use
-    /// without rules; the limits of nodes and of tiles; a short. A refusal draws nothing. `NoMemory` for want of memory.
+    /// without rules; the limits of nodes and of tiles; a short. `NoMemory` for want of memory. Where something refuses the edit, no
+    /// pass is drawn, also where memory is wanting.
     pub fn replace<T: Threads + Sync, G: Gate, M: Meter>(
         &mut self,
         rt: &T,
@@ -487,6 +489,7 @@ impl Engine {
         ensures kept { OnErr result (self.new ≡ self.old) }
         ensures ok { IfOk result (λ count. M.drawn meter.new ≡ M.drawn meter.old + 2 * count) }
         ensures none { IfErr result (DrawsNone (M.drawn meter.old) (M.drawn meter.new)) }
+        ensures refused_draws_none { IsSome (edit_refusal self.old.layout self.old.rules net paths.now) → M.drawn meter.new ≡ M.drawn meter.old }
         ensures least { M.drawn meter.old ≤ M.drawn meter.new }
         ensures spent { M.drawn meter.new ≤ M.drawn meter.old + 2 * length (edit_windows self.old.frame self.old.layout net paths.now) }
     {
