@@ -30,7 +30,7 @@ use Rattle.rc_windows.specs.Sweeps.{AreTalliesOf}
 use Rattle.rc_engine.specs.Names.{Numbering, numbering_of}
 use Rattle.rc_engine.specs.Brought.{entries_of, owned, AreOwned, HasNets}
 use Rattle.rc_engine.specs.OwnEntries.{HasNames}
-use Rattle.rc_engine.specs.Totals.{AreTotals, IsKey}
+use Rattle.rc_engine.specs.Totals.{AreTotals, AreSums, AreSumsOfNet, IsKey}
 use Rattle.rc_engine.specs.Extraction.{net_caps, net_with, net_value, numbered_nets, total_of, value_with, extraction}
 use Rattle.rc_engine.specs.Windows.{layout_tiles, windows_of, HasRatedItems, IsExtractable}
 use Rattle.rc_engine.specs.Start.{start_refusal, node_count}
@@ -43,18 +43,24 @@ use Rattle.rc_engine.proofs.Limits.{totals_fit, entries_fit, node_listed}
 
 -- ---- its sums
 
-pub sums_are_totals : (e : Engine) → IsEngine e → AreTotals e.layout e.rules (entries_of e.tallies)
+sums_are_totals : (e : Engine) → IsEngine e → AreTotals e.layout e.rules (entries_of e.tallies)
 sums_are_totals e is = tallies_are_totals e.layout e.rules e.frame e.tallies is.extractable is.frame is.halo is.tallies is.rising
 
-engine_tiles : (e : Engine) → IsEngine e → AreTilesOf e.layout e.rules (layout_tiles e.layout)
-engine_tiles e is = record {
-  plane = tiles_make_the_layout e.layout e.rules is.extractable;
-  sweepable = tiles_are_sweepable e.layout e.rules is.extractable;
-  few = is.extractable.few;
+pub engine_sums : (e : Engine) → IsEngine e → AreSums e.layout e.rules e.tallies
+engine_sums e is = record { extractable = is.extractable; few_nodes = is.few_nodes; totals = sums_are_totals e is }
+
+tiles_are : (wired : Wired) (rules : RuleFile) → IsExtractable wired rules → AreTilesOf wired rules (layout_tiles wired)
+tiles_are wired rules is = record {
+  plane = tiles_make_the_layout wired rules is;
+  sweepable = tiles_are_sweepable wired rules is;
+  few = is.few;
 }
 
-pub own_fit : (e : Engine) (number : ℕ) → IsEngine e → AllFit numbers (λ v. nat_lt v (2 ^ 128)) (owned number (entries_of e.tallies)) × All (λ x. HasNames x.key) (owned number (entries_of e.tallies))
-own_fit e number is = entries_fit e.layout e.rules (layout_tiles e.layout) number (entries_of e.tallies) is.extractable.facts (engine_tiles e is) (sums_are_totals e is)
+pub own_fit : (wired : Wired) (rules : RuleFile) (number : ℕ) (entries : List (Entry ℕ)) → AreSumsOfNet wired rules number entries → AllFit numbers (λ v. nat_lt v (2 ^ 128)) entries × All (λ x. HasNames x.key) entries
+own_fit wired rules number entries sums =
+    let is = sums.1.extractable in
+    subst (λ (es : List (Entry ℕ)). AllFit numbers (λ v. nat_lt v (2 ^ 128)) es × All (λ x. HasNames x.key) es) (sym sums.2)
+    (entries_fit wired rules (layout_tiles wired) number (entries_of sums.0) is.facts (tiles_are wired rules is) sums.1.totals)
 
 -- ---- its nets
 
@@ -68,8 +74,8 @@ own_rated wired rules nets i net rated all within is =
     let here : get_or (all_nets wired) i net ≡ net = get_or_append_left wired.nets wired.grounded net i (omega (arith, count, within)) ∙ ap (λ ns. get_or ns i net) (sym all) ∙ sym is in
     subst (HasRatedItems rules) here (rated i net (omega (arith, long, count, within)))
 
-pub small_total : (e : Engine) (number : ℕ) (net : Net) (caps : List Cap) → IsEngine e → slice_get e.layout.nets number ≡ Some net → caps ≡ net_caps e.layout e.rules (number, net) → total_of caps < 2 ^ 128
-small_total e number net caps is there are = subst (λ (cs : List Cap). total_of cs < 2 ^ 128) (sym are) (totals_fit e.layout e.rules number net is.extractable.rated there)
+pub small_total : (wired : Wired) (rules : RuleFile) (number : ℕ) (net : Net) (caps : List Cap) → IsExtractable wired rules → slice_get wired.nets number ≡ Some net → caps ≡ net_caps wired rules (number, net) → total_of caps < 2 ^ 128
+small_total wired rules number net caps is there are = subst (λ (cs : List Cap). total_of cs < 2 ^ 128) (sym are) (totals_fit wired rules number net is.rated there)
 
 -- a net's value
 pub value_is : (r : Result DNet NoMemory) (wired : Wired) (rules : RuleFile) (naming : Numbering) (number : ℕ) (net : Net) (caps : List Cap) → IfOk r (λ of. of ≡ net_with wired rules naming (number, net) caps) →
@@ -176,13 +182,12 @@ key_has_nets : (wired : Wired) (key : Key) → IsKey wired key → HasNets (leng
 key_has_nets wired (Ground m c) h = node_listed wired (m, c) h
 key_has_nets wired (Pair m c l d) h = (h.0, node_listed wired (l, d) h.2)
 
-pub tallies_have_nets : (e : Engine) → IsEngine e → All (λ (tally : List (Entry ℕ)). All (λ (x : Entry ℕ). HasNets (length e.layout.nets) x.key) tally) e.tallies
-tallies_have_nets e is = λ i d within j x less.
-    let tally = get_or e.tallies i d in
+pub tallies_have_nets : (wired : Wired) (rules : RuleFile) (tallies : List (List (Entry ℕ))) → AreTotals wired rules (entries_of tallies) → All (λ (tally : List (Entry ℕ)). All (λ (x : Entry ℕ). HasNets (length wired.nets) x.key) tally) tallies
+tallies_have_nets wired rules tallies totals = λ i d within j x less.
+    let tally = get_or tallies i d in
     let entry = get_or tally j x in
-    let there = flat_map_has (λ (t : List (Entry ℕ)). t) e.tallies tally entry (Contains-get_or e.tallies i d within) (Contains-get_or tally j x less) in
-    let totals = sums_are_totals e is in
-    key_has_nets e.layout entry.key (All-contains (λ (y : Entry ℕ). IsKey e.layout y.key) (entries_of e.tallies) entry totals.keys there)
+    let there = flat_map_has (λ (t : List (Entry ℕ)). t) tallies tally entry (Contains-get_or tallies i d within) (Contains-get_or tally j x less) in
+    key_has_nets wired entry.key (All-contains (λ (y : Entry ℕ). IsKey wired y.key) (entries_of tallies) entry totals.keys there)
 
 pub whole_value : (r : Result Spef NoMemory) (e : Engine) (wired : Wired) (nets : List DNet) → IfOk r (λ spef. spef ≡ value_with wired nets) → wired ≡ e.layout → nets ≡ map (net_value e.layout e.rules) (numbered_nets e.layout) →
     IfOk r (λ spef. spef ≡ extraction e.layout e.rules)

@@ -28,3 +28,4 @@ pub mod Editing
 pub mod Accepting
 pub mod Corners
 pub mod NearShapes
+pub mod Texts

@@ -1,5 +1,5 @@
 -- The sums of all windows together, and what a net has of them.
-use Rattle.std.specs.Prelude.{◌<◌, ◌≡◌, ℕ, nat_lt, List, Option, Some, None, All, Contains, slice_get, if◌then◌else◌}
+use Rattle.std.specs.Prelude.{◌<◌, ◌≤◌, ◌≡◌, ◌^◌, ℕ, nat_lt, List, Option, Some, None, All, Contains, slice_get, if◌then◌else◌}
 use Rattle.std.specs.List.{flat_map}
 use Rattle.rc_geom.specs.declared.key.Key.{Key}
 use Rattle.rc_geom.specs.declared.key.Key.TheVariants.{Ground, Pair}
@@ -11,9 +11,11 @@ use Rattle.rc_rules.specs.RuleFile.{RuleFile}
 use Rattle.rc_layout.specs.declared.net.Net.{Net}
 use Rattle.rc_layout.specs.Layouts.{Wired}
 use Rattle.rc_spef.specs.declared.value.Cap.{Cap}
-use Rattle.rc_engine.specs.Brought.{owned}
+use Rattle.rc_engine.specs.Brought.{entries_of, owned, AreOwned}
 use Rattle.rc_engine.specs.Extraction.{value_of, count_of, own_nodes, numbered_nets, net_caps}
 use Rattle.rc_engine.specs.OwnEntries.{AreOwnEntries}
+use Rattle.rc_engine.specs.Start.{node_count}
+use Rattle.rc_engine.specs.Windows.{IsExtractable}
 
 -- the nodes of all nets that aren't grounded
 unfoldable pub all_nodes : Wired → List Metal
@@ -45,3 +47,17 @@ TotalsAreOwn = (wired : Wired) (rules : RuleFile) (number : ℕ) (net : Net) (en
 abbrev pub AreCapsOf : List (Entry ℕ) → List Cap → Type 0
 AreCapsOf entries caps = (wired : Wired) (rules : RuleFile) (number : ℕ) (net : Net) (all : List (Entry ℕ)) →
     slice_get wired.nets number ≡ Some net → AreTotals wired rules all → entries ≡ owned number all → caps ≡ net_caps wired rules (number, net)
+
+-- the tallies of a layout that can be extracted and is within the limit of nodes: together they are what all of its faces add up to
+pub record AreSums (wired : Wired) (rules : RuleFile) (tallies : List (List (Entry ℕ))) : Type 0 where
+  pub extractable : IsExtractable wired rules
+  pub few_nodes : node_count wired.nets ≤ 2 ^ 22
+  pub totals : AreTotals wired rules (entries_of tallies)
+
+-- what a net has of such tallies
+abbrev pub AreSumsOfNet : Wired → RuleFile → ℕ → List (Entry ℕ) → Type 0
+AreSumsOfNet wired rules number entries = (tallies : List (List (Entry ℕ))) × AreSums wired rules tallies × (entries ≡ owned number (entries_of tallies))
+
+-- what each net has of such tallies
+abbrev pub AreSumsOfNets : Wired → RuleFile → List (List (Entry ℕ)) → Type 0
+AreSumsOfNets wired rules lists = (tallies : List (List (Entry ℕ))) × AreSums wired rules tallies × AreOwned lists (entries_of tallies)

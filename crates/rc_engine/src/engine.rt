@@ -18,6 +18,7 @@ ghost use Rattle.rc_shorts.specs.Places.{net_shapes};
 ghost use Rattle.rc_windows.specs.Frames.{window_count, IsFrame};
 ghost use Rattle.rc_windows.specs.Indexes.{near_lists};
 ghost use Rattle.rc_windows.specs.Sweeps.{AreTalliesOf};
+ghost use Rattle.rc_spef.specs.Text.{spef_text, net_text as net_bytes};
 ghost use Rattle.rc_engine.specs.Names.{numbering_of};
 ghost use Rattle.rc_engine.specs.Brought.{entries_of, owned, AreOwned};
 ghost use Rattle.rc_engine.specs.Windows.{layout_tiles, windows_of, IsExtractable};
@@ -29,16 +30,18 @@ ghost use Rattle.rc_engine.specs.Extraction.{extraction, net_value as net_value_
 use crate::accept::{Measure, accepted};
 use crate::bring::brought;
 use crate::candidate::{Metal, Totals, accepted_with};
-use crate::cap::capacitances;
 use crate::gather::gathered;
 use crate::naming::Naming;
 use crate::nearby::shapes_near;
-use crate::net::{net_of, value_of};
+use crate::net::value_of;
 use crate::net_names::NetNames;
 use crate::sweeping::{WindowSums, swept};
+use crate::text::{put_block, text_of};
 use crate::touching::{Resweep, rects, sweep_touched, touched_by};
+use crate::value::value_from;
 use rc_fixed::{List, NoMemory};
 use rc_geom::Tile;
+use rc_io::Pieces;
 use rc_keys::Fault;
 use rc_layout::{Layout, Net};
 use rc_nodes::Node;
@@ -517,20 +520,14 @@ impl Engine {
         requires entries { entries.old ≡ owned number (entries_of self.now.tallies) }
         ensures { IfOk result (λ of. IfSome (slice_get self.now.layout.nets number) (λ net. of ≡ net_value_of self.now.layout self.now.rules (number, net))) }
     {
-        self.layout.facts();
-        let place = number as usize;
-        let net = &self.layout.nets()[place];
-        let nodes = self.nodes.items()[place].items();
-        let caps = capacitances(alloc, entries)?;
-        net_of(
+        value_from(
             alloc,
             &self.layout,
             &self.rules,
             &self.naming,
+            self.nodes.items(),
             number,
-            net,
-            nodes,
-            caps,
+            entries,
         )
     }
 
@@ -585,5 +582,39 @@ impl Engine {
         let lists = brought(alloc, count, self.tallies.items())?;
         let nets = self.net_values(alloc, lists)?;
         value_of(alloc, &self.layout, &self.naming, nets)
+    }
+
+    /// The text of what the layout comes to: that of [`Engine::parasitics`], made net by net, so that neither the value nor a list of
+    /// all its capacitances is ever held.
+    ///
+    /// # Errors
+    ///
+    /// `NoMemory` for want of memory.
+    pub fn text(&self, alloc: Global) -> Result<Pieces, NoMemory>
+        ensures { IfOk result (λ pieces. pieces.bytes ≡ spef_text (extraction self.now.layout self.now.rules)) }
+    {
+        text_of(
+            alloc,
+            &self.layout,
+            &self.rules,
+            &self.naming,
+            self.nodes.items(),
+            self.tallies.items(),
+        )
+    }
+
+    /// The block of one net in that text. It takes the time of [`Engine::net_value`].
+    ///
+    /// # Errors
+    ///
+    /// `NoMemory` for want of memory.
+    pub fn net_text(&self, alloc: Global, net: u32) -> Result<Pieces, NoMemory>
+        requires { net < length self.now.layout.nets }
+        ensures { IfOk result (λ pieces. IfSome (slice_get (extraction self.now.layout self.now.rules).nets net) (λ of. pieces.bytes ≡ net_bytes of)) }
+    {
+        let value = self.net_value(alloc, net)?;
+        let mut pieces = Pieces::new(alloc);
+        put_block(&value, &mut pieces)?;
+        Ok(pieces)
     }
 }

@@ -20,7 +20,9 @@ mod net;
 mod net_names;
 mod resist;
 mod sweeping;
+mod text;
 mod touching;
+mod value;
 
 pub use bring::brought;
 pub use cap::capacitances;
