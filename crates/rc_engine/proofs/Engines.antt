@@ -2,7 +2,7 @@
 use Rattle.std.proofs.Common.{◌≡◌, ◌<◌, ◌≤◌, ◌+◌, ◌^◌, ℕ, List, [], ◌∷◌, ◌++◌, map, length, get_or, take, refl, ap, sym, subst, ◌∙◌, arith}
 use Rattle.std.specs.Prelude.{Option, Some, None, All, Result, Ok, Err, IfOk, IfSome, nat_lt, slice_get}
 use Rattle.std.specs.List.{sum_by}
-use Rattle.std.proofs.lemmas.List.{take_more, take_all, get_or_append_left, get_or-append-add, map-append, length-append}
+use Rattle.std.proofs.lemmas.List.{take_more, take_all, get_or_append_left, get_or_default, map-append, length-append}
 use Rattle.std.proofs.lemmas.List.FromFn.{get_or-enumerate_from, length-enumerate_from}
 use Rattle.std.proofs.lemmas.Option.{slice_get-get_or}
 use Rattle.std.proofs.lemmas.List.Elements.{Contains-get_or, All-contains}
@@ -27,8 +27,9 @@ use Rattle.rc_windows.specs.Frames.{IsFrame, window_count}
 use Rattle.rc_windows.specs.Indexes.{near_tiles, near_lists}
 use Rattle.rc_windows.specs.Laws.{AreAlike}
 use Rattle.rc_windows.specs.Sweeps.{AreTalliesOf}
+use Rattle.rc_engine.specs.declared.positions.Position.{Position}
 use Rattle.rc_engine.specs.Names.{Numbering, numbering_of}
-use Rattle.rc_engine.specs.Brought.{entries_of, owned, AreOwned, HasNets}
+use Rattle.rc_engine.specs.Brought.{entries_of, owned, owned_at, ArePositions, HasNets}
 use Rattle.rc_engine.specs.OwnEntries.{HasNames}
 use Rattle.rc_engine.specs.Totals.{AreTotals, AreSums, AreSumsOfNet, IsKey}
 use Rattle.rc_engine.specs.Extraction.{net_caps, net_with, net_value, numbered_nets, total_of, value_with, extraction}
@@ -110,18 +111,9 @@ begins e extractable accepted few some most frame halo lists count tallies risin
 
 -- ---- all values
 
-pub record AreSoFar (wired : Wired) (rules : RuleFile) (all seen rest : List (List (Entry ℕ))) (number : ℕ) (values : List DNet) : Type 0 where
-  pub split : seen ++ rest ≡ all
-  pub count : number ≡ length seen
-  pub are : values ≡ map (net_value wired rules) (take number (numbered_nets wired))
-
 first_net : (nets : List Net) (i : ℕ) → i < length nets → Net
 first_net [] i within = absurd (omega (arith, within))
 first_net (net ∷ nets) i within = net
-
-joined : {X : Type 0} (seen : List X) (x : X) (rest : List X) → (seen ++ x ∷ []) ++ rest ≡ seen ++ x ∷ rest
-joined [] x rest = refl
-joined (y ∷ seen) x rest = ap (λ zs. y ∷ zs) (joined seen x rest)
 
 numbered_length : (wired : Wired) → length (numbered_nets wired) ≡ length wired.nets
 numbered_length wired = length-enumerate_from 0 wired.nets
@@ -129,52 +121,30 @@ numbered_length wired = length-enumerate_from 0 wired.nets
 nothing_first : (i : ℕ) → 0 + i ≡ i
 nothing_first i = omega arith
 
-nothing_last : (i : ℕ) → i + 0 ≡ i
-nothing_last i = omega arith
-
-pub head_is_owned : (wired : Wired) (rules : RuleFile) (all seen rest : List (List (Entry ℕ))) (number : ℕ) (values : List DNet) (first : List (Entry ℕ)) (entries : List (Entry ℕ)) →
-    AreSoFar wired rules all seen (first ∷ rest) number values → AreOwned all entries → (number < length all) × (first ≡ owned number entries)
-head_is_owned wired rules all seen rest number values first entries so_far own =
-    let long : length seen + length (first ∷ rest) ≡ length all = sym (length-append seen (first ∷ rest)) ∙ ap length so_far.split in
-    let count = so_far.count in
-    let within : number < length all = omega (arith, long, count) in
-    let here : get_or all number [] ≡ first =
-    ap (λ (ls : List (List (Entry ℕ))). get_or ls number []) (sym so_far.split) ∙ ap (λ n. get_or (seen ++ first ∷ rest) n []) (count ∙ sym (nothing_last (length seen))) ∙ get_or-append-add seen (first ∷ rest) 0 [] in
-    (within, sym here ∙ own number within)
-
-pub value_more : (wired : Wired) (rules : RuleFile) (all seen rest : List (List (Entry ℕ))) (number : ℕ) (values after : List DNet) (first : List (Entry ℕ)) (of : DNet) (next : ℕ) →
-    AreSoFar wired rules all seen (first ∷ rest) number values → length all ≡ length wired.nets → IfSome (slice_get wired.nets number) (λ n. of ≡ net_value wired rules (number, n)) → after ≡ values ++ of ∷ [] → next ≡ number + 1 →
-    AreSoFar wired rules all (seen ++ first ∷ []) rest next after
-value_more wired rules all seen rest number values after first of next so_far total is put step =
-    let long : length seen + length (first ∷ rest) ≡ length all = sym (length-append seen (first ∷ rest)) ∙ ap length so_far.split in
-    let count = so_far.count in
-    let more = length-append seen (first ∷ []) in
-    let within : number < length wired.nets = omega (arith, long, count, total) in
+-- one net more
+pub value_more : (wired : Wired) (rules : RuleFile) (number : ℕ) (of : DNet) → number < length wired.nets → IfSome (slice_get wired.nets number) (λ n. of ≡ net_value wired rules (number, n)) →
+    map (net_value wired rules) (take number (numbered_nets wired)) ++ of ∷ [] ≡ map (net_value wired rules) (take (number + 1) (numbered_nets wired))
+value_more wired rules number of within is =
     let d : ℕ × Net = (0, first_net wired.nets number within) in
     let net = get_or wired.nets number d.1 in
     let numbers_long = numbered_length wired in
     let here : of ≡ net_value wired rules (number, net) = subst (λ (o : Option Net). IfSome o (λ n. of ≡ net_value wired rules (number, n))) (slice_get-get_or wired.nets number d.1 within) is in
-    record {
-      split = joined seen first rest ∙ so_far.split;
-      count = omega (arith, step, count, more);
-      are = put ∙ ap (λ vs. vs ++ of ∷ []) so_far.are
-          ∙ ap (λ v. map (net_value wired rules) (take number (numbered_nets wired)) ++ v ∷ [])
-          (here ∙ ap (λ n. net_value wired rules (n, net)) (sym (nothing_first number)) ∙ ap (net_value wired rules) (sym (get_or-enumerate_from 0 wired.nets number d within)))
-          ∙ sym (map-append (net_value wired rules) (take number (numbered_nets wired)) (get_or (numbered_nets wired) number d ∷ []))
-          ∙ ap (map (net_value wired rules)) (sym (take_more (numbered_nets wired) number d (omega (arith, numbers_long, within))))
-          ∙ ap (λ n. map (net_value wired rules) (take n (numbered_nets wired))) (sym step);
-    }
+    ap (λ v. map (net_value wired rules) (take number (numbered_nets wired)) ++ v ∷ [])
+    (here ∙ ap (λ n. net_value wired rules (n, net)) (sym (nothing_first number)) ∙ ap (net_value wired rules) (sym (get_or-enumerate_from 0 wired.nets number d within)))
+    ∙ sym (map-append (net_value wired rules) (take number (numbered_nets wired)) (get_or (numbered_nets wired) number d ∷ []))
+    ∙ ap (map (net_value wired rules)) (sym (take_more (numbered_nets wired) number d (omega (arith, numbers_long, within))))
 
-pub values_all : (wired : Wired) (rules : RuleFile) (all seen rest : List (List (Entry ℕ))) (number : ℕ) (values : List DNet) → AreSoFar wired rules all seen rest number values → length rest ≡ 0 → length all ≡ length wired.nets →
-    values ≡ map (net_value wired rules) (numbered_nets wired)
-values_all wired rules all seen rest number values so_far none total =
-    let long : length seen + length rest ≡ length all = sym (length-append seen rest) ∙ ap length so_far.split in
-    let count = so_far.count in
+pub values_all : (wired : Wired) (rules : RuleFile) (number : ℕ) → length wired.nets ≤ number → map (net_value wired rules) (take number (numbered_nets wired)) ≡ map (net_value wired rules) (numbered_nets wired)
+values_all wired rules number past =
     let numbers_long = numbered_length wired in
-    so_far.are ∙ ap (map (net_value wired rules)) (take_all number (numbered_nets wired) (omega (arith, long, count, none, total, numbers_long)))
+    ap (map (net_value wired rules)) (take_all number (numbered_nets wired) (omega (arith, past, numbers_long)))
 
-pub begins_so_far : (wired : Wired) (rules : RuleFile) (all rest : List (List (Entry ℕ))) (values : List DNet) → rest ≡ all → values ≡ [] → AreSoFar wired rules all [] rest 0 values
-begins_so_far wired rules all rest values same none = record { split = same; count = refl; are = none }
+-- what a net has at its positions
+pub own_positions : (tallies : List (List (Entry ℕ))) (lists : List (List Position)) (entries : List (Entry ℕ)) (i number : ℕ) (own items : List Position) → ArePositions tallies lists entries → i < length lists → number ≡ i → own ≡ get_or lists i own → items ≡ own →
+    owned_at tallies number items ≡ owned number entries
+own_positions tallies lists entries i number own items are within same is handed =
+    ap (owned_at tallies number) (handed ∙ is ∙ get_or_default lists i own [] within)
+    ∙ subst (λ (n : ℕ). owned_at tallies n (get_or lists i []) ≡ owned n entries) (sym same) (are i within)
 
 -- ---- what all windows have
 

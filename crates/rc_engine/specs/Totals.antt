@@ -11,7 +11,7 @@ use Rattle.rc_rules.specs.RuleFile.{RuleFile}
 use Rattle.rc_layout.specs.declared.net.Net.{Net}
 use Rattle.rc_layout.specs.Layouts.{Wired}
 use Rattle.rc_spef.specs.declared.value.Cap.{Cap}
-use Rattle.rc_engine.specs.Brought.{entries_of, owned, AreOwned}
+use Rattle.rc_engine.specs.Brought.{entries_of, owned}
 use Rattle.rc_engine.specs.Extraction.{value_of, count_of, own_nodes, numbered_nets, net_caps}
 use Rattle.rc_engine.specs.OwnEntries.{AreOwnEntries}
 use Rattle.rc_engine.specs.Start.{node_count}
@@ -57,7 +57,3 @@ pub record AreSums (wired : Wired) (rules : RuleFile) (tallies : List (List (Ent
 -- what a net has of such tallies
 abbrev pub AreSumsOfNet : Wired → RuleFile → ℕ → List (Entry ℕ) → Type 0
 AreSumsOfNet wired rules number entries = (tallies : List (List (Entry ℕ))) × AreSums wired rules tallies × (entries ≡ owned number (entries_of tallies))
-
--- what each net has of such tallies
-abbrev pub AreSumsOfNets : Wired → RuleFile → List (List (Entry ℕ)) → Type 0
-AreSumsOfNets wired rules lists = (tallies : List (List (Entry ℕ))) × AreSums wired rules tallies × AreOwned lists (entries_of tallies)

@@ -20,7 +20,7 @@ ghost use Rattle.rc_windows.specs.Indexes.{near_lists};
 ghost use Rattle.rc_windows.specs.Sweeps.{AreTalliesOf};
 ghost use Rattle.rc_spef.specs.Text.{spef_text, net_text as net_bytes};
 ghost use Rattle.rc_engine.specs.Names.{numbering_of};
-ghost use Rattle.rc_engine.specs.Brought.{entries_of, owned, AreOwned};
+ghost use Rattle.rc_engine.specs.Brought.{entries_of, owned};
 ghost use Rattle.rc_engine.specs.Windows.{layout_tiles, windows_of, IsExtractable};
 ghost use Rattle.rc_engine.specs.Start.{grid_of, node_count, tile_total, start_refusal, IsStartFault, IsRefusal};
 ghost use Rattle.rc_engine.specs.Engine.{IsEngine, DrawsNone};
@@ -28,17 +28,17 @@ ghost use Rattle.rc_engine.specs.Edits.{edited, edit_refusal, edit_windows, touc
 ghost use Rattle.rc_engine.specs.Extraction.{extraction, net_value as net_value_of, numbered_nets};
 
 use crate::accept::{Measure, accepted};
-use crate::bring::brought;
 use crate::candidate::{Metal, Totals, accepted_with};
 use crate::gather::gathered;
 use crate::naming::Naming;
 use crate::nearby::shapes_near;
 use crate::net::value_of;
 use crate::net_names::NetNames;
+use crate::positions::positions_of;
 use crate::sweeping::{WindowSums, swept};
 use crate::text::{put_block, text_of};
 use crate::touching::{Resweep, rects, sweep_touched, touched_by};
-use crate::value::value_from;
+use crate::value::{value_from, values_of};
 use rc_fixed::{List, NoMemory};
 use rc_geom::Tile;
 use rc_io::Pieces;
@@ -547,28 +547,6 @@ impl Engine {
         self.value_from(alloc, net, &mut entries)
     }
 
-    /// The values of all nets, from what all windows have for each.
-    fn net_values(
-        &self,
-        alloc: Global,
-        lists: List<List<Entry<u128>>>,
-    ) -> Result<List<DNet>, NoMemory>
-        requires count { length lists ≡ length self.now.layout.nets }
-        requires owned { AreOwned lists (entries_of self.now.tallies) }
-        ensures { IfOk result (λ nets. nets ≡ map (net_value_of self.now.layout self.now.rules) (numbered_nets self.now.layout)) }
-    {
-        self.layout.facts();
-        let mut values = List::with_capacity(alloc, lists.len())?;
-        let mut number = 0;
-        for entries in lists.into_vec() {
-            let mut entries = entries.into_vec();
-            let value = self.value_from(alloc, number, &mut entries)?;
-            values.push(value)?;
-            number += 1;
-        }
-        Ok(values)
-    }
-
     /// What the layout comes to: the square-by-square extraction, as a SPEF value.
     ///
     /// # Errors
@@ -579,8 +557,17 @@ impl Engine {
     {
         self.layout.facts();
         let count = self.layout.nets().len() as u32;
-        let lists = brought(alloc, count, self.tallies.items())?;
-        let nets = self.net_values(alloc, lists)?;
+        let tallies = self.tallies.items();
+        let lists = positions_of(alloc, count, tallies)?;
+        let nets = values_of(
+            alloc,
+            &self.layout,
+            &self.rules,
+            &self.naming,
+            self.nodes.items(),
+            tallies,
+            lists.items(),
+        )?;
         value_of(alloc, &self.layout, &self.naming, nets)
     }
 

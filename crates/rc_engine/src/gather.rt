@@ -2,14 +2,32 @@
 
 ghost use Rattle.std.specs.Prelude.{◌≡◌, ◌<◌, ◌++◌, [], All, IfOk, OnOk, length, slice_index_or};
 ghost use Rattle.std.specs.List.{cons_option, flat_map};
-ghost use Rattle.rc_engine.specs.Brought.{own_of, owned};
+ghost use Rattle.rc_engine.specs.Brought.{own_at as own_at_of, own_of, owned, owned_at, turned_about};
+ghost use Rattle.rc_geom.specs.declared.key.Key.TheVariants.{Pair};
 
 use crate::any::push_any;
-use crate::bring::turned;
+use crate::positions::Position;
 use rc_fixed::{List, NoMemory};
 use rc_geom::Key;
 use rc_tally::{Entry, Tally};
 use std::alloc::Global;
+
+/// An entry for its second net, whose node then stands first.
+fn turned(entry: &Entry<u128>, net: u32, node: u32, other: u32, onode: u32) -> Entry<u128>
+    requires { entry.now.key ≡ Pair net node other onode }
+    ensures { result ≡ turned_about entry.now entry.now.key }
+{
+    Entry {
+        key: Key::Pair {
+            net: other,
+            node: onode,
+            other: net,
+            onode: node,
+        },
+        count: entry.count,
+        value: entry.value,
+    }
+}
 
 /// What an entry is to a net: itself where a node of the net stands first, turned about where one stands second.
 fn own(net: u32, entry: &Entry<u128>) -> Option<Entry<u128>>
@@ -63,4 +81,50 @@ pub fn gathered(
         gather_from(&mut list, net, tallies[*k as usize].entries())?;
     }
     Ok(list)
+}
+
+/// What the entry at a position is to a net. A position without an entry gives none.
+fn own_at(net: u32, tallies: &[Tally<u128>], at: Position) -> Option<Entry<u128>>
+    ensures { result ≡ own_at_of tallies.now net at }
+{
+    match tallies.get(at.window as usize) {
+        Some(tally) => match tally.entries().get(at.place as usize) {
+            Some(entry) => own(net, entry),
+            None => None,
+        },
+        None => None,
+    }
+}
+
+/// Appends an entry, where there is one.
+fn add_any(entries: &mut Vec<Entry<u128>>, own: Option<Entry<u128>>) -> Result<(), NoMemory>
+    ensures { OnOk result (entries.new.items ≡ entries.old.items ++ cons_option own []) }
+{
+    match own {
+        Some(entry) => {
+            entries.push(entry)?;
+            Ok(())
+        }
+        None => Ok(()),
+    }
+}
+
+/// Gathers what a net has at some positions, in their order, in place of what the list held.
+///
+/// # Errors
+///
+/// `NoMemory` for want of memory.
+pub fn gather_at(
+    entries: &mut Vec<Entry<u128>>,
+    net: u32,
+    tallies: &[Tally<u128>],
+    positions: &[Position],
+) -> Result<(), NoMemory>
+    ensures { OnOk result (entries.new.items ≡ owned_at tallies.now net positions.now) }
+{
+    entries.clear();
+    for at in positions {
+        add_any(entries, own_at(net, tallies, *at))?;
+    }
+    Ok(())
 }

@@ -4,7 +4,6 @@
 mod accept;
 mod any;
 mod area;
-mod bring;
 mod candidate;
 mod cap;
 mod conn;
@@ -18,13 +17,13 @@ mod naming;
 mod nearby;
 mod net;
 mod net_names;
+mod positions;
 mod resist;
 mod sweeping;
 mod text;
 mod touching;
 mod value;
 
-pub use bring::brought;
 pub use cap::capacitances;
 pub use conn::{connections, die_pins};
 pub use engine::{Engine, StartFault};

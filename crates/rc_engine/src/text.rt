@@ -4,21 +4,22 @@ ghost use Rattle.std.specs.Prelude.{◌≡◌, ◌++◌, [], IfOk, OnOk, length,
 ghost use Rattle.std.specs.List.{flat_map};
 ghost use Rattle.rc_nodes.specs.Nodes.{nodes_of};
 ghost use Rattle.rc_spef.specs.Text.{spef_text, head_text as head_bytes, net_text as net_bytes};
+ghost use Rattle.rc_engine.specs.Brought.{entries_of, ArePositions};
 ghost use Rattle.rc_engine.specs.Extraction.{extraction, net_value, numbered_nets, value_with};
 ghost use Rattle.rc_engine.specs.Names.{numbering_of};
-ghost use Rattle.rc_engine.specs.Totals.{AreSums, AreSumsOfNets};
+ghost use Rattle.rc_engine.specs.Totals.{AreSums};
 
-use crate::bring::brought;
 use crate::naming::Naming;
 use crate::net::value_of;
-use crate::value::value_from;
+use crate::positions::{Position, positions_of};
+use crate::value::value_at;
 use rc_fixed::{List, NoMemory};
 use rc_io::Pieces;
 use rc_layout::Layout;
 use rc_nodes::Node;
 use rc_rules::Rules;
 use rc_spef::{DNet, block_text, head_and_blocks, head_text};
-use rc_tally::{Entry, Tally};
+use rc_tally::Tally;
 use std::alloc::Global;
 
 /// Appends the block of a net.
@@ -52,27 +53,39 @@ fn put_head(
     }
 }
 
-/// Appends the blocks of all nets, one after another, from what all windows have for each.
+/// Appends the blocks of all nets, one after another, from the positions of the entries of each.
 fn put_blocks(
     alloc: Global,
     layout: &Layout,
     rules: &Rules,
     naming: &Naming,
     nodes: &[List<Node>],
-    lists: List<List<Entry<u128>>>,
+    tallies: &[Tally<u128>],
+    lists: &[List<Position>],
     pieces: &mut Pieces,
 ) -> Result<(), NoMemory>
     requires naming { naming.now ≡ numbering_of layout.now }
     requires nodes { nodes.now ≡ map nodes_of layout.now.nets }
-    requires count { length lists ≡ length layout.now.nets }
-    requires sums { AreSumsOfNets layout.now rules.now lists }
+    requires sums { AreSums layout.now rules.now tallies.now }
+    requires count { length lists.now ≡ length layout.now.nets }
+    requires positions { ArePositions tallies.now lists.now (entries_of tallies.now) }
     ensures { OnOk result (pieces.new.bytes ≡ pieces.old.bytes ++ flat_map net_bytes (map (net_value layout.now rules.now) (numbered_nets layout.now))) }
 {
     layout.facts();
+    let mut entries = Vec::new(alloc);
     let mut number = 0;
-    for entries in lists.into_vec() {
-        let mut entries = entries.into_vec();
-        let value = value_from(alloc, layout, rules, naming, nodes, number, &mut entries)?;
+    for own in lists {
+        let value = value_at(
+            alloc,
+            layout,
+            rules,
+            naming,
+            nodes,
+            tallies,
+            number,
+            own.items(),
+            &mut entries,
+        )?;
         put_block(&value, pieces)?;
         number += 1;
     }
@@ -99,9 +112,18 @@ pub fn text_of(
 {
     layout.facts();
     head_and_blocks();
-    let lists = brought(alloc, layout.nets().len() as u32, tallies)?;
+    let lists = positions_of(alloc, layout.nets().len() as u32, tallies)?;
     let mut pieces = Pieces::new(alloc);
     put_head(alloc, layout, naming, &mut pieces)?;
-    put_blocks(alloc, layout, rules, naming, nodes, lists, &mut pieces)?;
+    put_blocks(
+        alloc,
+        layout,
+        rules,
+        naming,
+        nodes,
+        tallies,
+        lists.items(),
+        &mut pieces,
+    )?;
     Ok(pieces)
 }

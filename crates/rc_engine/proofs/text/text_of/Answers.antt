@@ -9,8 +9,8 @@ use Rattle.rc_engine.proofs.Engines.{tallies_have_nets}
 use Rattle.rc_engine.proofs.Texts.{whole_text}
 use Rattle.rc_engine.proofs.text.text_of.Goals as goal
 
-pub brought-requires : goal.brought-requires
-brought-requires c =
+pub positions_of-requires : goal.positions_of-requires
+positions_of-requires c =
     subst (λ (ns : List Net). All (λ (tally : List (Entry ℕ)). All (λ (x : Entry ℕ). HasNets (length ns) x.key) tally) c.args.tallies.now) (sym c.nets.ensures)
     (tallies_have_nets c.args.layout.now c.args.rules.now c.args.tallies.now c.requires.sums.totals)
 
