@@ -1,14 +1,13 @@
 -- What is entered into a tally, one after the other.
-use Rattle.std.proofs.Common.{◌≡◌, ◌<◌, ◌≤◌, ◌+◌, ◌^◌, ℕ, Bool, true, false, cond, List, Option, Some, None, Result, Ok, Err, refl, ap, sym, ◌∙◌}
-use Rattle.std.specs.Prelude.{OnOk, IfSome, nat_lt}
-use Rattle.std.specs.Option.{option_map_or}
-use Rattle.std.proofs.lemmas.Bool.{cond-true, cond_both, and_parts, ltb-true}
+use Rattle.std.proofs.Common.{◌≡◌, ◌≤◌, ◌+◌, ◌^◌, ℕ, Bool, true, false, cond, List, Option, Some, Result, Ok, Err, refl, ap, sym, ◌∙◌}
+use Rattle.std.specs.Prelude.{OnOk, nat_lt}
+use Rattle.std.proofs.lemmas.Bool.{cond-true, cond_both, and_parts}
 use Rattle.rc_geom.specs.declared.key.Key.{Key}
 use Rattle.rc_geom.specs.Parts.{same_key, worth_at, part_for}
 use Rattle.rc_geom.specs.Sums.{Adding}
 use Rattle.rc_tally.specs.declared.entry.Entry.{Entry}
 use Rattle.rc_tally.specs.Amounts.{IsAmount, repeated}
-use Rattle.rc_tally.specs.Tallies.{Sum, sums, sum_fits, sum_of, sum_at, Grows, HasSums}
+use Rattle.rc_tally.specs.Tallies.{Sum, sums, sum_fits, sum_at, Grows, HasSums}
 use Rattle.rc_tally.proofs.Named.{add_kept}
 use Rattle.rc_tally.proofs.Places.{same_itself}
 use Rattle.rc_sums.specs.Entering.{many, IsTally, HasRoom, Enters}

@@ -12,7 +12,7 @@ use Rattle.rc_geom.specs.Sums.{Adding}
 use Rattle.rc_geom.proofs.KeyTests.{one_key}
 use Rattle.rc_tally.specs.declared.entry.Entry.{Entry}
 use Rattle.rc_tally.specs.Amounts.{IsAmount}
-use Rattle.rc_tally.specs.Tallies.{Sum, sums, sum_of, sum_at, sum_fits, entry_at, both, joined, gathered, Grows, Gathers, AllFit}
+use Rattle.rc_tally.specs.Tallies.{Sum, sums, sum_of, sum_at, sum_fits, entry_at, both, joined, gathered, Grows, Gathers}
 use Rattle.rc_tally.proofs.Gathering.{with_one, is_of, gathered_append, gathered_sound, fits_beside}
 use Rattle.rc_tally.proofs.Merging.{sum_in, joined_sum}
 use Rattle.rc_tally.proofs.Places.{same_itself}

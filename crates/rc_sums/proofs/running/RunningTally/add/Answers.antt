@@ -1,6 +1,6 @@
-use Rattle.std.proofs.Common.{◌≡◌, ◌<◌, true, List, length, get_or, set, sym, ap, ◌∙◌, subst}
+use Rattle.std.proofs.Common.{◌≡◌, true, List, set, sym, ap, ◌∙◌, subst}
 use Rattle.rc_tally.specs.declared.entry.Entry.{Entry}
-use Rattle.rc_tally.specs.Tallies.{Sum, sums, sum_of, sum_at, sum_fits, both, Grows}
+use Rattle.rc_tally.specs.Tallies.{sums, sum_of, sum_at, sum_fits, Grows}
 use Rattle.rc_sums.specs.Parts.{added_up, CanAddUp, IsPartOf}
 use Rattle.rc_sums.proofs.Parts.{fits_at_end, fits_at_place, both_fit, grows_at_end, grows_at_place}
 use Rattle.rc_sums.proofs.running.RunningTally.add.Goals as goal
