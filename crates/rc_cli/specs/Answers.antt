@@ -3,9 +3,10 @@ use Rattle.std.specs.Prelude.{ℕ, ◌≡◌, ◌⊎◌, Bool, IsTrue, List, Opt
 use Rattle.std.specs.Str.{bytes_eq}
 use Rattle.rc_io.specs.Causes.{Rose}
 use Rattle.rc_io.specs.Bytes.{grown, GrewByPrefix}
-use Rattle.rc_cli.specs.Command.{Verify, Request, request_of, file_words}
+use Rattle.rc_session.specs.Cuts.{HasFirstReplies}
+use Rattle.rc_cli.specs.Command.{Verify, Session, Request, request_of, file_words}
 use Rattle.rc_cli.specs.Lines.{usage_line, no_memory_line, read_fault_line}
-use Rattle.rc_cli.specs.Outcome.{Texts, Course, Missing, Refused, Done, Reply, outcome}
+use Rattle.rc_cli.specs.Outcome.{Texts, Course, Missing, Refused, Done, Reply, Opening, outcome, session_opening}
 
 -- ---- files and sinks
 
@@ -70,6 +71,21 @@ ComesTo before words course = (asked : Request) × (request_of words ≡ Some as
 abbrev pub IsVerify : List (List ℕ) → Type 0
 IsVerify words = (asked : Request) × (spef : List ℕ) × (request_of words ≡ Some asked) × (asked.task ≡ Verify spef)
 
+-- the words ask for a session
+abbrev pub IsSession : List (List ℕ) → Type 0
+IsSession words = (asked : Request) × (script : List ℕ) × (request_of words ≡ Some asked) × (asked.task ≡ Session script)
+
+-- the words ask for a session, which over files that tell begins so; and out grew by the whole replies to its first commands, of
+-- which there are more
+abbrev pub HasReplies : Shelf → Written → List (List ℕ) → Type 0
+HasReplies before w words = (asked : Request) × (script : List ℕ) × (opened : Opening) × (request_of words ≡ Some asked) × (asked.task ≡ Session script)
+    × (IsTrue before.tells → session_opening before.texts asked.inputs script ≡ Done opened)
+    × HasFirstReplies opened.setting opened.state opened.commands w.out_before w.out_after
+
+-- where memory runs out nothing was written to out, or whole replies of a session
+abbrev pub HasWholeReplies : Shelf → Written → List (List ℕ) → Type 0
+HasWholeReplies before w words = OutKept w ⊎ HasReplies before w words
+
 -- a line that a status other than 0, 4 and 6 writes, with the cause of that status
 abbrev pub IsLineOf : Shelf → Shelf → List (List ℕ) → List ℕ → Type 0
 IsLineOf before after words line =
@@ -100,8 +116,9 @@ pub record IsCutText (shelf : Shelf) (w : Written) (words : List (List ℕ)) (be
   pub err : ErrKept w
   pub front : (reply : Reply) × ComesTo shelf words (Done reply) × GrewByPrefix w.out_before w.out_after reply.text
 
--- err failed after a front of a line that has its cause, and out holds nothing more
+-- err failed after a front of a line that has its cause. Out holds nothing more, but for the replies of a session that want of
+-- memory cut off
 pub record IsCutLine (shelf later : Shelf) (w : Written) (words : List (List ℕ)) (before now : ℕ) : Type 0 where
   pub rose : Rose before now
-  pub out : OutKept w
   pub front : (line : List ℕ) × IsLineOf shelf later words line × GrewByPrefix w.err_before w.err_after line
+      × (OutKept w ⊎ ((line ≡ no_memory_line) × HasReplies shelf w words))

@@ -3,8 +3,6 @@ use Rattle.std.specs.Prelude.{ℕ, Bool, false, not, ◌==◌, ◌&&◌, List, [
 use Rattle.std.specs.Fmt.{decimal, signed_decimal}
 use Rattle.std.specs.List.{find, flat_map}
 use Rattle.std.specs.Option.{option_map_or}
-use Rattle.rc_keys.specs.declared.code.Code.{Code}
-use Rattle.rc_keys.specs.declared.code.Code.TheVariants.{E11, E13, E14}
 use Rattle.rc_keys.specs.declared.fault.Refusal.{Refusal}
 use Rattle.rc_keys.specs.declared.fault.Refusal.TheVariants.{At, NoRules, Short, Limit}
 use Rattle.rc_keys.specs.Names.{code_name, quantity_name}
@@ -14,6 +12,7 @@ use Rattle.rc_lef.specs.declared.tech.LayerKind.TheVariants as kinds
 use Rattle.rc_layout.specs.declared.net.Net.{Net}
 use Rattle.rc_layout.specs.Layouts.{Wired}
 use Rattle.rc_layout.specs.Metal.{all_nets}
+use Rattle.rc_session.specs.Replies.{refusal_code}
 
 -- the words have no listed form
 abbrev pub usage_line : List ℕ
@@ -64,12 +63,6 @@ names_in None = no_names
 names_in (Some wired) = names_of wired
 
 -- ---- refusals
-
-abbrev pub refusal_code : Refusal → Code
-refusal_code (At code line) = code
-refusal_code (NoRules cut number) = E11
-refusal_code (Short first second layer x y) = E13
-refusal_code (Limit what) = E14
 
 -- what a refusal names, word by word: a file and a line; a layer; two nets, their layer and their place, in units of 1/M
 -- micron; a quantity

@@ -1,5 +1,5 @@
 -- What a run comes to, from what its words ask for and from what the files hold.
-use Rattle.std.specs.Prelude.{ℕ, ◌-◌, ◌*◌, ◌^◌, Bool, false, List, Option, Some, None, Result, Ok, Err, length, fold, is_some, nat_lt, if◌then◌else◌}
+use Rattle.std.specs.Prelude.{ℕ, ◌+◌, ◌-◌, ◌*◌, ◌^◌, Bool, false, List, Option, Some, None, Result, Ok, Err, length, fold, is_some, nat_lt, if◌then◌else◌}
 use Rattle.rc_keys.specs.declared.code.Code.TheVariants.{E08}
 use Rattle.rc_keys.specs.declared.code.Quantity.TheVariants.{Bytes}
 use Rattle.rc_keys.specs.declared.fault.Refusal.{Refusal}
@@ -17,10 +17,14 @@ use Rattle.rc_spef.specs.Text.{spef_text}
 use Rattle.rc_windows.specs.Frames.{window_count}
 use Rattle.rc_engine.specs.Start.{start_refusal, grid_of}
 use Rattle.rc_engine.specs.Extraction.{extraction}
+use Rattle.rc_script.specs.declared.command.Command.{Command}
+use Rattle.rc_script.specs.Rows.{script_outcome}
+use Rattle.rc_session.specs.Sessions.{Setting, State, Progress, session}
+use Rattle.rc_session.specs.Sessions as sessions
 use Rattle.rc_cli.specs.declared.stages.Drawn.{Drawn}
 use Rattle.rc_cli.specs.declared.stages.Ruled.{Ruled}
 use Rattle.rc_cli.specs.declared.stages.Placed.{Placed}
-use Rattle.rc_cli.specs.Command.{Inputs, Task, Extract, Verify, Request}
+use Rattle.rc_cli.specs.Command.{Inputs, Task, Extract, Verify, Session, Request}
 use Rattle.rc_cli.specs.Lines.{Names, no_names, names_of, refusal_line}
 use Rattle.rc_cli.specs.Verdict.{verdict, verdict_text}
 
@@ -123,17 +127,58 @@ written spef = record { text = spef_text spef; differs = false }
 abbrev pub compared : Spef → Spef → Reply
 compared spef file = record { text = verdict_text spef file; differs = is_some (verdict spef file) }
 
+-- a session before its first command: what no edit changes, the layout, and the commands
+pub record Opening : Type 0 where
+  pub setting : Setting
+  pub state : State
+  pub commands : List Command
+
+-- the grid of a session is that of its first layout
+abbrev pub opening_with : Placed → List Command → Opening
+opening_with placed commands = record {
+  setting = record { rules = placed.rules; frame = grid_of placed.layout placed.rules };
+  state = record { layout = placed.layout; touched = 0 };
+  commands = commands;
+}
+
+-- the script is read last, whole
+abbrev pub opening : Texts → List ℕ → Placed → Course Opening
+opening texts script placed = proceed (read_file texts script placed.room script_outcome) (λ (commands, room). Done (opening_with placed commands))
+
+-- a session behind its last command
+abbrev pub ended : Opening → Progress
+ended opened = session opened.setting opened.state opened.commands
+
+abbrev pub replied : Opening → Reply
+replied opened = record { text = sessions.written (ended opened); differs = false }
+
+-- what a session over these files begins with
+unfoldable pub session_opening : Texts → Inputs → List ℕ → Course Opening
+session_opening texts inputs script =
+    proceed (layout texts inputs) (λ placed.
+    proceed (extracted inputs.def placed) (λ spef.
+    opening texts script placed))
+
 -- the extraction is written, or compared with a file that is read last
-abbrev pub reply : Texts → Task → ℕ → Spef → Course Reply
-reply texts Extract room spef = Done (written spef)
-reply texts (Verify name) room spef = proceed (read_file texts name room spef_outcome) (λ (file, room). Done (compared spef file))
+abbrev pub reply : Texts → Option (List ℕ) → ℕ → Spef → Course Reply
+reply texts None room spef = Done (written spef)
+reply texts (Some name) room spef = proceed (read_file texts name room spef_outcome) (λ (file, room). Done (compared spef file))
+
+-- what the extraction of these files comes to, with the file that it is compared with
+unfoldable pub value_reply : Texts → Inputs → Option (List ℕ) → Course Reply
+value_reply texts inputs file =
+    proceed (layout texts inputs) (λ placed.
+    proceed (extracted inputs.def placed) (λ spef.
+    reply texts file placed.room spef))
+
+abbrev pub task_reply : Texts → Inputs → Task → Course Reply
+task_reply texts inputs Extract = value_reply texts inputs None
+task_reply texts inputs (Verify spef) = value_reply texts inputs (Some spef)
+task_reply texts inputs (Session script) = proceed (session_opening texts inputs script) (λ opened. Done (replied opened))
 
 -- what a request comes to over these files: its reply, the first refusal, or the first file that isn't there
 unfoldable pub outcome : Texts → Request → Course Reply
-outcome texts asked =
-    proceed (layout texts asked.inputs) (λ placed.
-    proceed (extracted asked.inputs.def placed) (λ spef.
-    reply texts asked.task placed.room spef))
+outcome texts asked = task_reply texts asked.inputs asked.task
 
 -- ---- sweeps
 
@@ -146,5 +191,18 @@ abbrev pub passes_over : Course Placed → ℕ
 passes_over (Done placed) = passes_for placed
 passes_over _ = 0
 
-abbrev pub passes : Texts → Inputs → ℕ
-passes texts inputs = passes_over (layout texts inputs)
+-- two for each window that an accepted edit touches
+abbrev pub passes_of_edits : Course Opening → ℕ
+passes_of_edits (Done opened) = 2 * (ended opened).swept
+passes_of_edits _ = 0
+
+abbrev pub passes_of_task : Texts → Inputs → Task → ℕ
+passes_of_task texts inputs (Session script) = passes_of_edits (session_opening texts inputs script)
+passes_of_task texts inputs _ = 0
+
+abbrev pub passes_of_opening : Texts → Request → ℕ
+passes_of_opening texts asked = passes_over (layout texts asked.inputs)
+
+-- those of the opening, and those of a session's edits
+unfoldable pub passes : Texts → Request → ℕ
+passes texts asked = passes_of_opening texts asked + passes_of_task texts asked.inputs asked.task

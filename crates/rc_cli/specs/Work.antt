@@ -9,7 +9,9 @@ use Rattle.rc_cli.specs.declared.stop.Stop.{Stop}
 use Rattle.rc_cli.specs.declared.stop.Stop.TheVariants.{Refused, Fault, NoMemory}
 use Rattle.rc_cli.specs.Lines.{Names, no_names, refusal_line, read_fault_line}
 use Rattle.rc_cli.specs.Command.{Verify, Request}
-use Rattle.rc_cli.specs.Outcome.{Texts, Course, Missing, Reply}
+use Rattle.rc_session.specs.Cuts.{setting_of, state_of}
+use Rattle.rc_cli.specs.declared.opening.Opened.{Opened}
+use Rattle.rc_cli.specs.Outcome.{Texts, Course, Missing, Reply, Opening}
 use Rattle.rc_cli.specs.Outcome as course
 use Rattle.rc_cli.specs.Answers.{Shelf, without}
 
@@ -57,3 +59,7 @@ TellsFault names file fault NoMemory = Unit {0}
 -- a reply says that two values differ only where a comparison is asked for
 abbrev pub OnlyVerifyDiffers : Request → Reply → Type 0
 OnlyVerifyDiffers asked reply = reply.differs ≡ true → (spef : List ℕ) × (asked.task ≡ Verify spef)
+
+-- what an opened session begins with
+abbrev pub opened_as : Opened → Opening
+opened_as opened = record { setting = setting_of opened.engine; state = state_of opened.engine; commands = opened.commands }

@@ -4,7 +4,7 @@ ghost use Rattle.std.specs.Prelude.{◌≡◌, ◌≤◌, IfSome, length, map};
 ghost use Rattle.std.specs.List.{list_all};
 ghost use Rattle.std.specs.Option.{option_copied};
 ghost use Rattle.std.specs.String.{string_bytes};
-ghost use Rattle.rc_cli.specs.Command.{is_file_word as is_file_word_of, number_up_to as number_up_to_of, request_for as request_for_of, extract_of, verify_of, request_of, spef_word, task_seen};
+ghost use Rattle.rc_cli.specs.Command.{is_file_word as is_file_word_of, is_script_word as is_script_word_of, number_up_to as number_up_to_of, request_for as request_for_of, extract_of, verify_of, session_of, request_of, spef_word, script_word, task_seen};
 
 use itoa::Buffer;
 use std::marker::Model;
@@ -15,13 +15,15 @@ const MOST_WORKERS: u32 = 64;
 /// How many LEF files there may be.
 const MOST_LEFS: usize = 64;
 
-/// What is done with an extraction.
+/// What is done with a design.
 #[derive(Clone, Copy, Debug, PartialEq, Eq)]
 pub enum Task<'a> {
-    /// It is written.
+    /// Its extraction is written.
     Extract,
     /// It is compared with the SPEF file of this name.
     Verify(&'a str),
+    /// The commands of the script of this name are carried out. `-` is the standard input.
+    Session(&'a str),
 }
 
 /// What the words of a command line ask for, by the names of its files.
@@ -57,6 +59,13 @@ fn is_file_word(word: &str) -> bool
 {
     let bytes = word.as_bytes();
     !bytes.is_empty() && bytes[0] != b'-'
+}
+
+/// Whether a word may name a script: it may name a file, or it is a dash.
+fn is_script_word(word: &str) -> bool
+    ensures { result ≡ is_script_word_of word.now }
+{
+    is_file_word(word) || word == "-"
 }
 
 /// Whether each of these words may name a file.
@@ -126,6 +135,19 @@ fn verify(words: &[String]) -> Option<Request<'_>>
     request_for(Task::Verify(spef.as_str()), workers.as_str(), files)
 }
 
+/// `W SCRIPT RULES DEF LEF..`
+fn session(words: &[String]) -> Option<Request<'_>>
+    ensures { result ≡ session_of (map string_bytes words.now) }
+{
+    let [workers, script, files @ ..] = words else {
+        return None;
+    };
+    if !is_script_word(script.as_str()) {
+        return None;
+    }
+    request_for(Task::Session(script.as_str()), workers.as_str(), files)
+}
+
 impl<'a> Request<'a> {
     /// What the words ask for. None comes exactly where they have no listed form.
     #[tactic(auto, unfolding(crate::specs::Command::request_of))]
@@ -138,6 +160,7 @@ impl<'a> Request<'a> {
         match command.as_str() {
             "extract" => extract(words),
             "verify" => verify(words),
+            "session" => session(words),
             _ => None,
         }
     }
@@ -185,8 +208,18 @@ impl<'a> Request<'a> {
         ensures { option_copied result ≡ spef_word self.now.task }
     {
         match self.task {
-            Task::Extract => None,
             Task::Verify(spef) => Some(spef),
+            Task::Extract | Task::Session(_) => None,
+        }
+    }
+
+    /// The name of the script of a session. None comes exactly where the words ask for no session.
+    pub fn script(&self) -> Option<&'a str>
+        ensures { option_copied result ≡ script_word self.now.task }
+    {
+        match self.task {
+            Task::Session(script) => Some(script),
+            Task::Extract | Task::Verify(_) => None,
         }
     }
 }

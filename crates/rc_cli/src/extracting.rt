@@ -2,6 +2,7 @@
 
 ghost use Rattle.std.specs.Prelude.{◌≡◌, ◌≤◌, ◌+◌, ◌^◌, IfOk, IfErr, OnOk};
 ghost use Rattle.rc_engine.specs.Extraction.{extraction};
+ghost use Rattle.rc_engine.specs.Start.{grid_of};
 ghost use Rattle.rc_cli.specs.Outcome.{Done, extracted as extracted_of, passes_for};
 ghost use Rattle.rc_cli.specs.Work.{IsRefusedBy};
 
@@ -18,8 +19,12 @@ use std::thread::Threads;
 /// Lets a value go.
 fn discard<T: Drop>(_value: T) {}
 
-/// Starts the engine over a layout: it refuses the layout, or sweeps its windows.
-fn started<R: Threads + Sync, M: Meter, G: Gate>(
+/// Starts the engine over a layout: it refuses the layout, or sweeps its windows, two passes for each.
+///
+/// # Errors
+///
+/// The refusal of a layer in use without rules, of too many nodes or tiles, or of the first short; or want of memory.
+pub fn started<R: Threads + Sync, M: Meter, G: Gate>(
     rt: &R,
     alloc: Global,
     workers: u32,
@@ -33,11 +38,14 @@ fn started<R: Threads + Sync, M: Meter, G: Gate>(
     requires drawn { M.drawn meter.old ≤ 2 ^ 62 }
     ensures layout { IfOk result (λ engine. engine.layout ≡ placed.layout) }
     ensures rules { IfOk result (λ engine. engine.rules ≡ placed.rules) }
+    ensures grid { IfOk result (λ engine. engine.frame ≡ grid_of placed.layout placed.rules) }
+    ensures touched { IfOk result (λ engine. engine.touched ≡ 0) }
     ensures accepted { IfOk result (λ engine. extracted_of def.now placed ≡ Done (extraction placed.layout placed.rules)) }
     ensures refused { IfErr result (IsRefusedBy (extracted_of def.now placed)) }
     ensures ok { OnOk result (M.drawn meter.new ≡ M.drawn meter.old + passes_for placed) }
     ensures least { M.drawn meter.old ≤ M.drawn meter.new }
     ensures spent { M.drawn meter.new ≤ M.drawn meter.old + passes_for placed }
+    ensures few { IfOk result (λ _. M.drawn meter.new ≤ M.drawn meter.old + 2 ^ 21) }
 {
     let Placed {
         layout,

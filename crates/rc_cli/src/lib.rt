@@ -5,13 +5,16 @@ mod command;
 mod extracting;
 mod laws;
 mod line;
+mod opening;
 mod reading;
+mod session;
 mod stages;
 mod stop;
 mod top;
 mod verdict;
 mod work;
 
-pub use laws::workers_change_nothing;
+pub use laws::{texts_are_fresh, workers_change_nothing};
 pub use line::{tell_no_memory, tell_usage};
+pub use rc_script::{Command, read_script};
 pub use top::run;

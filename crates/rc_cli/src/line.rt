@@ -5,14 +5,15 @@ ghost use Rattle.std.specs.Fmt.{decimal, signed_decimal};
 ghost use Rattle.std.specs.Option.{option_copied};
 ghost use Rattle.rc_io.specs.Causes.{Rose};
 ghost use Rattle.rc_io.specs.Bytes.{grown, GrewByPrefix};
-ghost use Rattle.rc_cli.specs.Lines.{is_layer as is_layer_of, layer_at as layer_at_of, layer_name as layer_name_of, net_name as net_name_of, names_in, refusal_code, refusal_words, spaced, refusal_line as refusal_line_of, read_fault_line as read_fault_line_of, usage_line, no_memory_line};
+ghost use Rattle.rc_cli.specs.Lines.{is_layer as is_layer_of, layer_at as layer_at_of, layer_name as layer_name_of, net_name as net_name_of, names_in, refusal_words, spaced, refusal_line as refusal_line_of, read_fault_line as read_fault_line_of, usage_line, no_memory_line};
 
 use itoa::{Buffer, Integer};
 use rc_fixed::{NoMemory, Text};
 use rc_io::{Sink, write_all};
-use rc_keys::{Code, Refusal};
+use rc_keys::Refusal;
 use rc_layout::Layout;
 use rc_lef::{Layer, LayerKind};
+use rc_session::code_of;
 use std::alloc::Global;
 
 /// The line of a file that failed.
@@ -175,18 +176,6 @@ fn push_words(
             },
         ),
         Refusal::Limit { what } => push_one(line, what.name().as_bytes()),
-    }
-}
-
-/// The code of a refusal.
-fn code_of(refusal: &Refusal) -> Code
-    ensures { result ≡ refusal_code refusal.now }
-{
-    match *refusal {
-        Refusal::At { code, .. } => code,
-        Refusal::NoRules { .. } => Code::E11,
-        Refusal::Short { .. } => Code::E13,
-        Refusal::Limit { .. } => Code::E14,
     }
 }
 

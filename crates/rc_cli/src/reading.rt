@@ -1,10 +1,12 @@
 //! Reading a file, and what it is read as.
 
-ghost use Rattle.std.specs.Prelude.{◌≡◌, ◌≤◌, ◌+◌, ◌^◌, IsTrue, IsSome, IfSome, IfOk, IfErr, Some, length};
+ghost use Rattle.std.specs.Prelude.{◌≡◌, ◌≤◌, ◌+◌, ◌^◌, IsTrue, IsSome, IfSome, IfOk, IfErr, All, Some, length};
 ghost use Rattle.rc_lef.specs.Rows.{lef_outcome};
 ghost use Rattle.rc_def.specs.File.{def_outcome};
 ghost use Rattle.rc_def.specs.Forms.{IsRawDesign};
 ghost use Rattle.rc_rules.specs.Rows.{rules_outcome};
+ghost use Rattle.rc_script.specs.Forms.{IsCommand};
+ghost use Rattle.rc_script.specs.Rows.{script_outcome};
 ghost use Rattle.rc_spef.specs.Rows.{spef_outcome};
 ghost use Rattle.rc_cli.specs.Outcome.{Done, read_file};
 ghost use Rattle.rc_cli.specs.Answers.{shelf};
@@ -17,6 +19,7 @@ use rc_io::{Files, ReadEnd, read_whole};
 use rc_keys::{Fault, Quantity, Refusal};
 use rc_lef::{Tech, TechReader};
 use rc_rules::Rules;
+use rc_script::{Command, read_script};
 use rc_spef::Spef;
 use std::alloc::Global;
 
@@ -140,6 +143,30 @@ pub fn read_spef<F: Files>(
     };
     match rc_spef::read(alloc, text.items()) {
         Ok(spef) => Ok((spef, room - text.len() as u64)),
+        Err(fault) => Err(refused(alloc, None, name, &fault)),
+    }
+}
+
+/// Reads a script, behind which no other file is read.
+pub fn read_commands<F: Files>(
+    alloc: Global,
+    files: &mut F,
+    name: &str,
+    room: u64,
+) -> Result<(List<Command>, u64), Stop>
+    requires { room ≤ 2 ^ 30 }
+    ensures keeps { Keeps (shelf (F.tells files.old) (F.text files.old) (F.faults files.old)) (shelf (F.tells files.new) (F.text files.new) (F.faults files.new)) }
+    ensures done { IfOk result (λ read. IsTrue (F.tells files.old) → read_file (F.text files.old) name.now room script_outcome ≡ Done read) }
+    ensures commands { IfOk result (λ read. All IsCommand read.0) }
+    ensures few { IfOk result (λ read. length read.0 ≤ 2 ^ 30) }
+    ensures unread { IfErr result (IsUnread (shelf (F.tells files.old) (F.text files.old) (F.faults files.old)) (shelf (F.tells files.new) (F.text files.new) (F.faults files.new)) name.now (read_file (F.text files.old) name.now room script_outcome)) }
+{
+    let text = match read_text(alloc, files, name, room) {
+        Ok(text) => text,
+        Err(why) => return Err(why),
+    };
+    match read_script(alloc, text.items()) {
+        Ok(commands) => Ok((commands, room - text.len() as u64)),
         Err(fault) => Err(refused(alloc, None, name, &fault)),
     }
 }

@@ -3,7 +3,7 @@
 ghost use Rattle.std.specs.Prelude.{◌≡◌, ◌≤◌, ◌+◌, ◌^◌, List as Bytes, ℕ, IsTrue, IfOk, IfErr, Some, None};
 ghost use Rattle.std.specs.Option.{option_copied};
 ghost use Rattle.rc_spef.specs.Text.{spef_text};
-ghost use Rattle.rc_cli.specs.Command.{Task, file_words, task_words, spef_word};
+ghost use Rattle.rc_cli.specs.Command.{file_words, spef_word, script_word};
 ghost use Rattle.rc_cli.specs.Outcome.{Done, outcome, reply as reply_of, written as written_of, compared as compared_of, passes};
 ghost use Rattle.rc_cli.specs.Answers.{shelf};
 ghost use Rattle.rc_cli.specs.Work.{Keeps, HasStopped, OnlyVerifyDiffers};
@@ -100,9 +100,9 @@ fn answer<F: Files>(
 ) -> Result<Reply, Stop>
     requires { room ≤ 2 ^ 30 }
     ensures keeps { Keeps (shelf (F.tells files.old) (F.text files.old) (F.faults files.old)) (shelf (F.tells files.new) (F.text files.new) (F.faults files.new)) }
-    ensures done { IfOk result (λ reply. IsTrue (F.tells files.old) → reply_of (F.text files.old) asked.now.task room spef.now ≡ Done reply) }
+    ensures done { IfOk result (λ reply. IsTrue (F.tells files.old) → reply_of (F.text files.old) (spef_word asked.now.task) room spef.now ≡ Done reply) }
     ensures stopped { IfErr result (HasStopped (shelf (F.tells files.old) (F.text files.old) (F.faults files.old)) (shelf (F.tells files.new) (F.text files.new) (F.faults files.new))
-        (file_words asked.now) (λ texts. reply_of texts asked.now.task room spef.now)) }
+        (file_words asked.now) (λ texts. reply_of texts (spef_word asked.now.task) room spef.now)) }
     ensures differs { IfOk result (OnlyVerifyDiffers asked.now) }
 {
     let Some(name) = asked.spef() else {
@@ -123,7 +123,7 @@ fn answer<F: Files>(
     }
 }
 
-/// Does the work of a request: reads its files in the order of work, extracts the layout, and gathers the reply. Two passes are
+/// Does the work of a request that asks for no session: reads its files in the order of work, extracts the layout, and gathers the reply. Two passes are
 /// drawn for each window of the layout's grid.
 ///
 /// # Errors
@@ -137,14 +137,15 @@ pub fn work<R: Threads + Sync, F: Files, M: Meter, G: Gate>(
     meter: &mut M,
     gate: &G,
 ) -> Result<Reply, Stop>
-    requires { M.drawn meter.old ≤ 2 ^ 62 }
+    requires drawn { M.drawn meter.old ≤ 2 ^ 62 }
+    requires value { script_word asked.now.task ≡ None }
     ensures done { IfOk result (λ reply. IsTrue (F.tells files.old) → outcome (F.text files.old) asked.now ≡ Done reply) }
     ensures stopped { IfErr result (HasStopped (shelf (F.tells files.old) (F.text files.old) (F.faults files.old)) (shelf (F.tells files.new) (F.text files.new) (F.faults files.new))
         (file_words asked.now) (λ texts. outcome texts asked.now)) }
     ensures differs { IfOk result (OnlyVerifyDiffers asked.now) }
-    ensures passes { IfOk result (λ _. IsTrue (F.tells files.old) → M.drawn meter.new ≡ M.drawn meter.old + passes (F.text files.old) asked.now.inputs) }
+    ensures passes { IfOk result (λ _. IsTrue (F.tells files.old) → M.drawn meter.new ≡ M.drawn meter.old + passes (F.text files.old) asked.now) }
     ensures least { M.drawn meter.old ≤ M.drawn meter.new }
-    ensures spent { IsTrue (F.tells files.old) → M.drawn meter.new ≤ M.drawn meter.old + passes (F.text files.old) asked.now.inputs }
+    ensures spent { IsTrue (F.tells files.old) → M.drawn meter.new ≤ M.drawn meter.old + passes (F.text files.old) asked.now }
 {
     let placed = match place(alloc, files, asked) {
         Ok(placed) => placed,
