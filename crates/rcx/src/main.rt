@@ -1,8 +1,11 @@
 //! `rcx` extracts the parasitics of routed layouts. All that it does is `rc_cli::run`.
 #![tactic(auto)]
 
+mod inputs;
+
+use inputs::Inputs;
 use rc_cli::{run, tell_no_memory, tell_usage};
-use rc_io::{RealFiles, RealSink};
+use rc_io::RealSink;
 use rc_sweep::CountMeter;
 use rc_windows::FreeGate;
 use std::process::ExitCode;
@@ -25,7 +28,7 @@ fn main(rt: HostRuntime) -> ExitCode {
             &rt,
             rt.alloc(),
             &words,
-            &mut RealFiles::new(&rt),
+            &mut Inputs::new(&rt),
             &mut RealSink::new(rt.stdout()),
             &mut err,
             &mut CountMeter::new(),

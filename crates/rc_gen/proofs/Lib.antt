@@ -1,0 +1,4 @@
+pub mod Orders
+pub mod Rows
+pub mod Amounts
+pub mod Additions
