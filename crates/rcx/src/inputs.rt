@@ -1,7 +1,6 @@
 //! The files that the words name.
 
-ghost use Rattle.std.specs.Prelude.{◌≡◌, ◌↔◌, ◌<◌, ◌≤◌, [], List, ℕ, false, None, length, IfOk, OnOk, OnErr, IsTrue};
-ghost use Rattle.rc_io.specs.Causes.{Rose};
+ghost use Rattle.std.specs.Prelude.{[], false, None, IsTrue};
 
 use rc_io::{Failed, Files, RealFiles};
 use std::rt;
@@ -36,21 +35,12 @@ impl<'a, R: rt::Files> Files for Inputs<'a, R> {
     ghost faults = { λ inputs name. inputs.files.faults };
 
     fn begin(&mut self, name: &str) -> Result<(), Failed>
-        ensures begun { OnOk result (IsTrue self.new.files.is_open) }
-        ensures later { self.old.files.faults ≤ self.new.files.faults }
-        ensures cause { OnErr result (Rose self.old.files.faults self.new.files.faults) }
     {
         self.files
             .begin(if name == "-" { STANDARD_INPUT } else { name })
     }
 
     fn read(&mut self, buffer: &mut [u8]) -> Result<usize, Failed>
-        requires room { 0 < length buffer.old }
-        requires begun { (n : List ℕ) × IsTrue self.old.files.is_open }
-        ensures begun { (n : List ℕ) → IsTrue self.new.files.is_open ↔ IsTrue self.old.files.is_open }
-        ensures count { IfOk result (λ count. count ≤ length buffer.new) }
-        ensures later { self.old.files.faults ≤ self.new.files.faults }
-        ensures cause { OnErr result (Rose self.old.files.faults self.new.files.faults) }
     {
         self.files.read(buffer)
     }
