@@ -70,7 +70,7 @@ pub texts_are_fresh : TextsAreFresh
 texts_are_fresh texts other inputs again script opened first placed begins is same rules =
     let behind = layouts_stay_accepted opened.setting opened.state first (opening-accepted texts inputs script opened begins) in
     let none : start_refusal placed.layout placed.rules ≡ None =
-        ap (λ (w : Wired). start_refusal w placed.rules) same ∙ ap (start_refusal (state_behind opened first).layout) rules ∙ behind in
+    ap (λ (w : Wired). start_refusal w placed.rules) same ∙ ap (start_refusal (state_behind opened first).layout) rules ∙ behind in
     fresh-run other again placed is none
     ∙ ap (λ (w : Wired). Done (written (extraction w placed.rules))) same
     ∙ ap (λ (r : RuleFile). Done (written (extraction (state_behind opened first).layout r))) rules

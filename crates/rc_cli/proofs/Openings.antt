@@ -155,7 +155,7 @@ unfolding passes
 session-passes before asked script placed opened first now is done began drew told =
     let whole : passes_of_opening before.texts asked ≡ passes_for placed = ap passes_over (done told) in
     let edits : passes_of_task before.texts asked.inputs asked.task ≡ 2 * (ended opened).swept =
-        ap (passes_of_task before.texts asked.inputs) (is-session asked.task script is) ∙ ap passes_of_edits (began told) in
+    ap (passes_of_task before.texts asked.inputs) (is-session asked.task script is) ∙ ap passes_of_edits (began told) in
     omega (arith, drew, whole, edits)
 
 no-edits : (texts : Texts) (inputs : Inputs) (task : Task) → script_word task ≡ None → passes_of_task texts inputs task ≡ 0

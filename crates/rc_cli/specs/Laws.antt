@@ -24,4 +24,4 @@ TextsAreFresh = (texts other : Texts) (inputs again : Inputs) (script : List ℕ
     → session_opening texts inputs script ≡ Done opened
     → layout other again ≡ Done placed → placed.layout ≡ (state_behind opened first).layout → placed.rules ≡ opened.setting.rules
     → outcome other (record { task = Extract; workers = 1; inputs = again })
-        ≡ Done (record { text = (answer opened.setting (state_behind opened first) Spef).reply; differs = false })
+    ≡ Done (record { text = (answer opened.setting (state_behind opened first) Spef).reply; differs = false })

@@ -43,7 +43,7 @@ pub fn tell_session<R: Threads + Sync, O: Sink, E: Sink, M: Meter, G: Gate>(
     ensures cut { result ≡ 4
         → (Rose (O.faults out.old) (O.faults out.new) × GrewByPrefix (O.written out.old) (O.written out.new) (written (ended (opened_as opened))) × (err.new ≡ err.old))
         ⊎ (Rose (E.faults err.old) (E.faults err.new) × GrewByPrefix (E.written err.old) (E.written err.new) no_memory_line
-            × HasFirstReplies (opened_as opened).setting (opened_as opened).state opened.commands (O.written out.old) (O.written out.new)) }
+        × HasFirstReplies (opened_as opened).setting (opened_as opened).state opened.commands (O.written out.old) (O.written out.new)) }
     ensures passes { result ≡ 0 → M.drawn meter.new ≡ M.drawn meter.old + 2 * (ended (opened_as opened)).swept }
     ensures least { M.drawn meter.old ≤ M.drawn meter.new }
     ensures spent { M.drawn meter.new ≤ M.drawn meter.old + 2 * (ended (opened_as opened)).swept }

@@ -54,7 +54,8 @@ END ;
     let session = ending(&rt, alloc, "2", &design, Some(script), 1 << 10, &gate)?;
     assert_eq!(rt; session.status, 0);
     assert_eq!(rt; session.passes, 14);
-    let wanted: &[u8] = b"// swept 0\n// replaced b\n// swept 2\n// refused line 4 E13\n// replaced b\n// swept 2\n";
+    let wanted: &[u8] =
+        b"// swept 0\n// replaced b\n// swept 2\n// refused line 4 E13\n// replaced b\n// swept 2\n";
     assert_eq!(rt; session.out.bytes(), wanted);
     assert_eq!(rt; gate.waits.load(Ordering::SeqCst), 0);
     let [first, second] = &gate.begun;

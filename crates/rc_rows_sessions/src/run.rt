@@ -30,6 +30,7 @@ END RULES ;
 
 /// What stands before the nets of a design, and behind them.
 pub const HEAD: &str = "VERSION 5.8 ;\nDESIGN t ;\nUNITS DISTANCE MICRONS 1000 ;\nNETS 1 ;\n";
+
 pub const TAIL: &str = "END NETS\nEND DESIGN\n";
 
 /// How a run ends.
@@ -51,8 +52,14 @@ pub fn ending<R: Threads + Sync, G: Gate>(
     gate: &G,
 ) -> Result<Ending, Fail> {
     let mut files = List::new(alloc);
-    files.push((Text::from(alloc, b"t.lef")?, Text::from(alloc, LEF.as_bytes())?))?;
-    files.push((Text::from(alloc, b"r.rules")?, Text::from(alloc, RULES.as_bytes())?))?;
+    files.push((
+        Text::from(alloc, b"t.lef")?,
+        Text::from(alloc, LEF.as_bytes())?,
+    ))?;
+    files.push((
+        Text::from(alloc, b"r.rules")?,
+        Text::from(alloc, RULES.as_bytes())?,
+    ))?;
     files.push((Text::from(alloc, b"d.def")?, Text::from(alloc, design)?))?;
     let mut words = Vec::new(alloc);
     match script {

@@ -126,7 +126,7 @@ pub accepted_answers : {E : Type 0} (reply : GatheredBytes) (old new : Engine) (
 accepted_answers {E} reply old new name line paths number count drawn now found is none rules frame touched counted framed drew says =
     let made = edit_made (setting_of old) (state_of old) number paths new.layout count is none counted in
     let done : edit_named (setting_of old) (state_of old) name paths ≡ Ok (state_of new) =
-        ap (edit_found (setting_of old) (state_of old) paths) found ∙ ap coded made ∙ ap (λ t. Ok (record { layout = new.layout; touched = t })) (sym touched) in
+    ap (edit_found (setting_of old) (state_of old) paths) found ∙ ap coded made ∙ ap (λ t. Ok (record { layout = new.layout; touched = t })) (sym touched) in
     let few = few_windows old.frame old.layout number paths (subst IsFrame frame framed) in
     subst (λ (r : Result State Code). Answers {E = E} (Ok reply) old new drawn now (after_edit (state_of old) line name r)) (sym done) (record {
       setting = same_setting new old rules frame;
@@ -143,7 +143,7 @@ pub refused_answers : {E : Type 0} (r : Result GatheredBytes E) (old new : Engin
     → Answers r old new drawn now (after_edit (state_of old) line name (edit_named (setting_of old) (state_of old) name paths))
 refused_answers {E} r old new name line paths number drawn now refusal code found refused coded_as same none says =
     let done : edit_named (setting_of old) (state_of old) name paths ≡ Err code =
-        ap (edit_found (setting_of old) (state_of old) paths) found ∙ ap coded (edit_refused (setting_of old) (state_of old) number paths refusal refused) ∙ ap Err (sym coded_as) in
+    ap (edit_found (setting_of old) (state_of old) paths) found ∙ ap coded (edit_refused (setting_of old) (state_of old) number paths refusal refused) ∙ ap Err (sym coded_as) in
     subst (λ (e : Result State Code). Answers r old new drawn now (after_edit (state_of old) line name e)) (sym done)
     (unchanged r old new (refused_line line code) drawn now same none says)
 

@@ -25,9 +25,11 @@ replies_from setting p [] = (sym (append-nil p.replies), refl, omega arith)
 replies_from setting p (c ∷ commands) =
     let given = answer setting p.state c in
     let far = replies_from setting (with_answer p given) commands in
-    let near = replies_from setting (with_answer (beginning p.state) given) commands in
-    (far.0 ∙ append_assoc p.replies (given.reply ∷ []) ((fold (step setting) (beginning given.state) commands).replies) ∙ ap (λ rs. p.replies ++ rs) (sym near.0),
-    far.1 ∙ sym near.1, omega (arith, far.2, near.2))
+    let near = replies_from setting (with_answer (beginning p.state) given) commands in (
+      far.0 ∙ append_assoc p.replies (given.reply ∷ []) ((fold (step setting) (beginning given.state) commands).replies) ∙ ap (λ rs. p.replies ++ rs) (sym near.0),
+      far.1 ∙ sym near.1,
+      omega (arith, far.2, near.2),
+    )
 
 pub replies_follow : RepliesFollow
 unfolding session
@@ -56,12 +58,13 @@ refused_replies setting state second c reply is =
 
 pub refused_edits_change_nothing : RefusedEditsChangeNothing
 refused_edits_change_nothing setting state first second name paths line code refused =
-    let reached = (session setting state first).state in
-    ((session setting reached second).replies,
-    replies_follow setting state first second,
-    replies_follow setting state first (Replace name paths line ∷ second)
-    ∙ ap (λ rs. (session setting state first).replies ++ rs)
-    (refused_replies setting reached second (Replace name paths line) (refused_line line code) (refused_says setting reached name paths line code refused)))
+    let reached = (session setting state first).state in (
+      (session setting reached second).replies,
+      replies_follow setting state first second,
+      replies_follow setting state first (Replace name paths line ∷ second)
+          ∙ ap (λ rs. (session setting state first).replies ++ rs)
+          (refused_replies setting reached second (Replace name paths line) (refused_line line code) (refused_says setting reached name paths line code refused)),
+    )
 
 -- ---- the commands up to a place, and those behind it
 

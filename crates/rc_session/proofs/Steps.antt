@@ -77,12 +77,13 @@ unfolding session
 begins_with setting state commands i c within is =
     let front = take i commands ++ c ∷ [] in
     let more = replies_from setting (session setting state front) (drop (suc i) commands) in
-    let later = (session setting (session setting state front).state (drop (suc i) commands)).replies in
-    (flat_map (λ reply. reply) later,
-    ap (λ cs. written (session setting state cs)) (split commands i c within is)
-    ∙ ap (λ (p : Progress). written p) (fold-append (step setting) (beginning state) front (drop (suc i) commands))
-    ∙ ap (flat_map (λ reply. reply)) more.0
-    ∙ flat_map-append (λ reply. reply) (session setting state front).replies later)
+    let later = (session setting (session setting state front).state (drop (suc i) commands)).replies in (
+      flat_map (λ reply. reply) later,
+      ap (λ cs. written (session setting state cs)) (split commands i c within is)
+          ∙ ap (λ (p : Progress). written p) (fold-append (step setting) (beginning state) front (drop (suc i) commands))
+          ∙ ap (flat_map (λ reply. reply)) more.0
+          ∙ flat_map-append (λ reply. reply) (session setting state front).replies later,
+    )
 
 -- and the passes of the whole are no fewer
 pub sweeps_more : (setting : Setting) (state : State) (commands : List Command) (i : ℕ) (c : Command) → i < length commands → c ≡ get_or commands i c →
@@ -92,8 +93,8 @@ sweeps_more setting state commands i c within is =
     let front = take i commands ++ c ∷ [] in
     let more = replies_from setting (session setting state front) (drop (suc i) commands) in
     let whole : (session setting state commands).swept ≡ (fold (step setting) (session setting state front) (drop (suc i) commands)).swept =
-        ap (λ cs. (session setting state cs).swept) (split commands i c within is)
-        ∙ ap (λ (p : Progress). p.swept) (fold-append (step setting) (beginning state) front (drop (suc i) commands)) in
+    ap (λ cs. (session setting state cs).swept) (split commands i c within is)
+    ∙ ap (λ (p : Progress). p.swept) (fold-append (step setting) (beginning state) front (drop (suc i) commands)) in
     omega (arith, whole, more.2)
 
 -- a sink that took a front of a reply behind whole replies holds a front of the session's text
@@ -101,12 +102,13 @@ pub front_of : (before between after : Option (List ℕ)) (sofar reply rest all 
     → GrewByPrefix between after reply → GrewByPrefix before after all
 front_of before between after sofar reply rest all behind is (count, few, holds) =
     let part : take (length sofar + count) all ≡ sofar ++ take count reply =
-        ap (take (length sofar + count)) (is ∙ append_assoc sofar reply rest) ∙ take-append-add sofar (reply ++ rest) count
-        ∙ ap (λ bytes. sofar ++ bytes) (take-append-le count reply rest few) in
-    let long : length all ≡ (length sofar + length reply) + length rest = ap length is ∙ length-append (sofar ++ reply) rest ∙ ap (λ n. n + length rest) (length-append sofar reply) in
-    (length sofar + count, omega (arith, few, long),
-    holds ∙ ap (λ held. grown held (take count reply)) behind ∙ grown-grown before sofar (take count reply) ∙ ap (grown before) (sym part))
-
+    ap (take (length sofar + count)) (is ∙ append_assoc sofar reply rest) ∙ take-append-add sofar (reply ++ rest) count
+    ∙ ap (λ bytes. sofar ++ bytes) (take-append-le count reply rest few) in
+    let long : length all ≡ (length sofar + length reply) + length rest = ap length is ∙ length-append (sofar ++ reply) rest ∙ ap (λ n. n + length rest) (length-append sofar reply) in (
+      length sofar + count,
+      omega (arith, few, long),
+      holds ∙ ap (λ held. grown held (take count reply)) behind ∙ grown-grown before sofar (take count reply) ∙ ap (grown before) (sym part),
+    )
 
 pub written_then : (out between after : Option (List ℕ)) (p q : Progress) (a : Answer) (bytes : List ℕ) → between ≡ grown out (written p) → after ≡ grown between bytes → bytes ≡ a.reply → q ≡ with_answer p a
     → after ≡ grown out (written q)
@@ -128,8 +130,8 @@ pub front_at : (setting here : Setting) (state there : State) (commands : List C
 front_at setting here state there commands i c out between after bytes same reached_at within is sofar said front =
     let more = begins_with setting state commands i c within is in
     let whole : written (session setting state commands) ≡ (written (session setting state (take i commands)) ++ bytes) ++ more.0 =
-        more.1 ∙ ap (λ (p : Progress). written p ++ more.0) (reached setting here state there commands i c same reached_at)
-        ∙ ap (λ text. text ++ more.0) (written_more (session setting state (take i commands)) (answer here there c) ∙ ap (λ b. written (session setting state (take i commands)) ++ b) (sym said)) in
+    more.1 ∙ ap (λ (p : Progress). written p ++ more.0) (reached setting here state there commands i c same reached_at)
+    ∙ ap (λ text. text ++ more.0) (written_more (session setting state (take i commands)) (answer here there c) ∙ ap (λ b. written (session setting state (take i commands)) ++ b) (sym said)) in
     front_of out between after (written (session setting state (take i commands))) bytes more.0 (written (session setting state commands)) sofar whole front
 
 pub rose_since : (before between now : ℕ) → before ≤ between → Rose between now → Rose before now

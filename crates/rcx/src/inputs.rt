@@ -34,14 +34,12 @@ impl<'a, R: rt::Files> Files for Inputs<'a, R> {
 
     ghost faults = { λ inputs name. inputs.files.faults };
 
-    fn begin(&mut self, name: &str) -> Result<(), Failed>
-    {
+    fn begin(&mut self, name: &str) -> Result<(), Failed> {
         self.files
             .begin(if name == "-" { STANDARD_INPUT } else { name })
     }
 
-    fn read(&mut self, buffer: &mut [u8]) -> Result<usize, Failed>
-    {
+    fn read(&mut self, buffer: &mut [u8]) -> Result<usize, Failed> {
         self.files.read(buffer)
     }
 }

@@ -28,11 +28,12 @@ returns-in-Err-clause-spent g c =
 
 pub returns-in-Err-write_all-clause-cut : goal.returns-in-Err-write_all-clause-cut
 returns-in-Err-write_all-clause-cut g c =
-    let at = c.loop-command in
-    (rose_since (g.O.Sink.faults c.args.out.now) (g.O.Sink.faults at.out) (g.O.Sink.faults c.write_all.new.sink) at.invariant.later c.in-Err-write_all.ensures.cause.failed,
-    front_at (setting_of c.args.engine.now) (setting_of at.engine) (state_of c.args.engine.now) (state_of at.engine) c.args.commands.now at.command-index c.command-item.result
-    (g.O.Sink.written c.args.out.now) (g.O.Sink.written at.out) (g.O.Sink.written c.write_all.new.sink) c.bytes.result.now
-    at.invariant.setting at.invariant.state c.loop-command-test.true c.command-item.is at.invariant.written (c.bytes.ensures ∙ c.in-Ok.ensures.replies.0) c.in-Err-write_all.ensures.prefix)
+    let at = c.loop-command in (
+      rose_since (g.O.Sink.faults c.args.out.now) (g.O.Sink.faults at.out) (g.O.Sink.faults c.write_all.new.sink) at.invariant.later c.in-Err-write_all.ensures.cause.failed,
+      front_at (setting_of c.args.engine.now) (setting_of at.engine) (state_of c.args.engine.now) (state_of at.engine) c.args.commands.now at.command-index c.command-item.result
+          (g.O.Sink.written c.args.out.now) (g.O.Sink.written at.out) (g.O.Sink.written c.write_all.new.sink) c.bytes.result.now
+          at.invariant.setting at.invariant.state c.loop-command-test.true c.command-item.is at.invariant.written (c.bytes.ensures ∙ c.in-Ok.ensures.replies.0) c.in-Err-write_all.ensures.prefix,
+    )
 
 pub returns-in-Err-write_all-clause-spent : goal.returns-in-Err-write_all-clause-spent
 returns-in-Err-write_all-clause-spent g c =
@@ -47,7 +48,7 @@ loop-command-preserved g c =
     let sofar = session (setting_of c.args.engine.now) (state_of c.args.engine.now) (take at.command-index c.args.commands.now) in
     let given = answer (setting_of at.engine) (state_of at.engine) c.command-item.result in
     let step = next (setting_of c.args.engine.now) (setting_of at.engine) (state_of c.args.engine.now) (state_of at.engine) c.args.commands.now at.command-index c.command-item.result
-        at.invariant.setting at.invariant.state c.loop-command-test.true c.command-item.is in
+    at.invariant.setting at.invariant.state c.loop-command-test.true c.command-item.is in
     record {
       setting = c.answer.ensures.setting ∙ at.invariant.setting;
       state = c.in-Ok.ensures.replies.1 ∙ ap (λ (p : Progress). p.state) (sym step);
