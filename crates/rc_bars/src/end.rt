@@ -16,7 +16,8 @@ use crate::mask::context;
 use rc_column::Face;
 use rc_fixed::NoMemory;
 use rc_rules::Rater;
-use rc_sums::{RunningTally, enter_part, own_key, seen_key};
+use rc_sums::{enter_part, own_key, seen_key};
+use rc_tally::Tally;
 
 /// How thick a bar's run is, at most the cap.
 fn thickness(bar: &Bar, cap: u32) -> u32
@@ -97,7 +98,7 @@ pub fn high_face(bar: &Bar, above: Option<Bar>, cap: u32, reach: u32) -> Face
 
 /// Enters what a face of a layer adds among layers with metal, so many times.
 pub fn enter_face<R: Rater>(
-    tally: &mut RunningTally<R::Value>,
+    tally: &mut Tally<R::Value>,
     rater: &R,
     layer: u8,
     metal: u32,

@@ -1,6 +1,6 @@
 -- What a search finds among entries with rising keys, and what an edit at that place does.
 use Rattle.std.proofs.Common.{◌≡◌, ◌≢◌, ℕ, zero, suc, ◌+◌, ◌-◌, ◌<◌, ◌≤◌, true, false, cond, List, [], ◌∷◌, length, get_or, set, Option, Some, None, Result, Ok, Err, ⊎_elim, sym, ap, refl, ◌∙◌, subst, arith}
-use Rattle.std.specs.Prelude.{MatchResult, slice_get}
+use Rattle.std.specs.Prelude.{MatchResult}
 use Rattle.std.specs.List.{insert}
 use Rattle.std.specs.List.Sorted.{IsSearchInRange, IsBinarySearchResult, IsNonDecreasingBy}
 use Rattle.std.specs.Ordering.{ordering_index}
@@ -8,8 +8,7 @@ use Rattle.std.specs.declared.cmp.Ordering.TheVariants.{Less}
 use Rattle.std.proofs.lemmas.List.Edits.{length-insert, get_or-insert_below, get_or-insert_at, get_or-insert_above}
 use Rattle.std.proofs.lemmas.Bool.{cases_Bool, cases_lt, cases_eq, cases_order, cond-true, cond-false}
 use Rattle.std.proofs.lemmas.Cmp.{tied_itself}
-use Rattle.std.proofs.lemmas.Option.{slice_get_within, get_or_from_slice_get}
-use Rattle.std.proofs.lemmas.List.{get_or_default, length-set, get_or-set_same, get_or-set_other}
+use Rattle.std.proofs.lemmas.List.{length-set, get_or-set_same, get_or-set_other}
 use Rattle.std.proofs.lemmas.List.Sorted.{searchable_from_sorted}
 use Rattle.rc_geom.specs.declared.key.Key.{Key}
 use Rattle.rc_geom.specs.Parts.{same_key}
@@ -154,25 +153,6 @@ rising_insert {V = W} es key i new rising gap is j k d less within =
     (λ (j_low : j < i). join at_j at_k (get_or es j d).key (get_or es (k - 1) d).key (low j j_low) (high k (k - 1) (omega arith) (omega arith)) (rising j (k - 1) d (omega arith) (omega arith)))
     (λ (j_here : j ≡ i). join at_j at_k key (get_or es (k - 1) d).key (here j j_here) (high k (k - 1) (omega arith) (omega arith)) (gap.above (k - 1) d (omega arith) (omega arith)))
     (λ (j_high : i < j). join at_j at_k (get_or es (j - 1) d).key (get_or es (k - 1) d).key (high j (j - 1) (omega arith) (omega arith)) (high k (k - 1) (omega arith) (omega arith)) (rising (j - 1) (k - 1) d (omega arith) (omega arith))))
-
--- a key above the last one goes at the end
-pub gap_at_end : {V : Type 0} (es : List (Entry V)) (key : Key) (e : Entry V) → IsRising es → slice_get es (length es - 1) ≡ Some e → key_order e.key key ≡ Less → IsGapFor es key (length es)
-gap_at_end {V = W} es key e rising found less = record {
-  in_range = omega arith;
-  below = λ j d within.
-      let some : length es - 1 < length es = slice_get_within es (length es - 1) e found in
-      let is : get_or es (length es - 1) e ≡ e = get_or_from_slice_get es (length es - 1) e e found in
-      ⊎_elim
-      (λ (inner : j < length es - 1).
-      let last : (get_or es (length es - 1) d).key ≡ e.key = ap (λ (x : Entry W). x.key) (get_or_default es (length es - 1) d e (omega (arith, some)) ∙ is) in
-      key_total.trans (get_or es j d).key e.key key (subst (λ (k : Key). key_order (get_or es j d).key k ≡ Less) last (rising j (length es - 1) d inner (omega (arith, some)))) less)
-      (λ (last : length es - 1 ≤ j).
-      let here : j ≡ length es - 1 = omega (arith, within, some) in
-      let key_is : (get_or es j d).key ≡ e.key = ap (λ (x : Entry W). x.key) (ap (λ (k : ℕ). get_or es k d) here ∙ (get_or_default es (length es - 1) d e (omega (arith, some)) ∙ is)) in
-      ap (λ (k : Key). key_order k key) key_is ∙ less)
-      (cases_lt j (length es - 1));
-  above = λ j d low high. absurd (omega (arith, low, high));
-}
 
 -- ---- what a binary search finds
 

@@ -73,7 +73,7 @@ pub(crate) fn merged<V: Amount>(
     ensures rising { IfOk result (λ sums. IsRising sums.items) }
     ensures merges { IfOk result (λ sums. Merges V.adding a.now b.now sums.items) }
 {
-    let mut sums = Vec::with_capacity(alloc, a.len() + b.len())?;
+    let mut sums = Vec::new(alloc);
     let mut i = 0;
     let mut j = 0;
     while i < a.len() || j < b.len() {

@@ -1,12 +1,11 @@
 //! Places of keys in entries with rising keys.
 
-ghost use Rattle.std.specs.Prelude.{◌≡◌, true, length, MatchResult};
+ghost use Rattle.std.specs.Prelude.{◌≡◌, true, MatchResult};
 ghost use Rattle.rc_tally.specs.Tallies.{IsRising};
 ghost use Rattle.rc_tally.specs.Places.{IsAt, IsGapFor};
 
 use crate::entry::Entry;
 use rc_geom::Key;
-use std::cmp::Ordering;
 
 /// Whether the entry at a place has the key; a place past the end has none.
 pub(crate) fn has_key<V: Copy>(entries: &[Entry<V>], at: usize, key: Key) -> bool
@@ -15,31 +14,13 @@ pub(crate) fn has_key<V: Copy>(entries: &[Entry<V>], at: usize, key: Key) -> boo
     at < entries.len() && entries[at].key == key
 }
 
-/// Whether a key is above all keys of the entries.
-fn is_above<V: Copy>(entries: &[Entry<V>], key: Key) -> bool
-    requires { IsRising entries.now }
-    ensures { result ≡ true → IsGapFor entries.now key (length entries.now) }
-{
-    match entries.last() {
-        Some(last) => match last.key.cmp(&key) {
-            Ordering::Less => true,
-            Ordering::Equal | Ordering::Greater => false,
-        },
-        None => true,
-    }
-}
-
-/// Where the key's entry stands, or else where it would have to be put in. `guess` is looked at first,
-/// then the end.
+/// Where the key's entry stands, or else where it would have to be put in. `guess` is looked at first.
 pub(crate) fn place<V: Copy>(entries: &[Entry<V>], guess: usize, key: Key) -> Result<usize, usize>
     requires { IsRising entries.now }
     ensures { MatchResult result (IsAt entries.now key) (IsGapFor entries.now key) }
 {
     if has_key(entries, guess, key) {
         return Ok(guess);
-    }
-    if is_above(entries, key) {
-        return Err(entries.len());
     }
     entries.binary_search_by_key(&key, |entry| entry.key)
 }

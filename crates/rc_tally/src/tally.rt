@@ -121,10 +121,7 @@ impl<V: Amount> Tally<V> {
         ensures list { IsPermutation entries.old entries.new }
     {
         entries.sort_unstable_by_key(|entry| entry.key);
-        let mut tally = Tally {
-            entries: Vec::with_capacity(alloc, entries.len())?,
-            latest: Latest::start(),
-        };
+        let mut tally = Tally::new(alloc);
         for entry in &*entries {
             tally.add(entry.key, entry.count, entry.value)?;
         }
