@@ -16,8 +16,7 @@ use crate::mask::context;
 use rc_column::Face;
 use rc_fixed::NoMemory;
 use rc_rules::Rater;
-use rc_sums::{enter_part, own_key, seen_key};
-use rc_tally::Tally;
+use rc_sums::{RunningTally, enter_part, own_key, seen_key};
 
 /// How thick a bar's run is, at most the cap.
 fn thickness(bar: &Bar, cap: u32) -> u32
@@ -98,7 +97,7 @@ pub fn high_face(bar: &Bar, above: Option<Bar>, cap: u32, reach: u32) -> Face
 
 /// Enters what a face of a layer adds among layers with metal, so many times.
 pub fn enter_face<R: Rater>(
-    tally: &mut Tally<R::Value>,
+    tally: &mut RunningTally<R::Value>,
     rater: &R,
     layer: u8,
     metal: u32,

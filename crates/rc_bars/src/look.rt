@@ -14,7 +14,7 @@ use crate::bar::Bar;
 use crate::pair::{Rows, enter_pair};
 use rc_fixed::NoMemory;
 use rc_rules::Rater;
-use rc_tally::Tally;
+use rc_sums::RunningTally;
 
 /// Slots: from the number `from` to below `to`.
 #[derive(Clone, Copy, Debug, PartialEq, Eq)]
@@ -78,7 +78,7 @@ fn alike_to(now: &[u32], under: &[u32], top: &[u32], base: usize, from: usize, t
 
 /// Enters the faces between a bar and its layer's last one, in each slot that the bar is over.
 pub fn look<R: Rater>(
-    tally: &mut Tally<R::Value>,
+    tally: &mut RunningTally<R::Value>,
     rater: &R,
     rows: Rows,
     bars: &[Bar],

@@ -12,7 +12,7 @@ use crate::bar::Bar;
 use crate::end::{enter_face, high_face, low_face};
 use rc_fixed::NoMemory;
 use rc_rules::Rater;
-use rc_tally::Tally;
+use rc_sums::RunningTally;
 
 /// The rows of a window: from `low` to below `high`.
 #[derive(Clone, Copy, Debug, PartialEq, Eq)]
@@ -37,7 +37,7 @@ fn ends_in(bar: &Bar, rows: Rows) -> bool
 
 /// Enters the face at the lower end of a bar, over the bar below it, so many times, where its square lies in the rows.
 fn enter_low<R: Rater>(
-    tally: &mut Tally<R::Value>,
+    tally: &mut RunningTally<R::Value>,
     rater: &R,
     rows: Rows,
     metal: u32,
@@ -64,7 +64,7 @@ fn enter_low<R: Rater>(
 
 /// Enters the face at the upper end of a bar, under the bar above it, so many times, where its square lies in the rows.
 fn enter_high<R: Rater>(
-    tally: &mut Tally<R::Value>,
+    tally: &mut RunningTally<R::Value>,
     rater: &R,
     rows: Rows,
     metal: u32,
@@ -92,7 +92,7 @@ fn enter_high<R: Rater>(
 /// Enters the face at the upper end of a layer's last bar, if there is one, so many times, where its square lies in the
 /// rows.
 pub fn enter_waiting<R: Rater>(
-    tally: &mut Tally<R::Value>,
+    tally: &mut RunningTally<R::Value>,
     rater: &R,
     rows: Rows,
     metal: u32,
@@ -118,7 +118,7 @@ pub fn enter_waiting<R: Rater>(
 /// Enters the two faces between a bar and its layer's last one, so many times, where their squares lie in the rows. `now`
 /// has the layers with metal over the bar's lowest square, `under` those over the highest square of the last one.
 pub fn enter_pair<R: Rater>(
-    tally: &mut Tally<R::Value>,
+    tally: &mut RunningTally<R::Value>,
     rater: &R,
     rows: Rows,
     now: u32,

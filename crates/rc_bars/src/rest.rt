@@ -15,11 +15,11 @@ use crate::look::{bar_at, width};
 use crate::pair::{Rows, enter_waiting};
 use rc_fixed::NoMemory;
 use rc_rules::Rater;
-use rc_tally::Tally;
+use rc_sums::RunningTally;
 
 /// Enters the upper ends of the last bars of all layers in a slot of so many columns.
 fn finish_slot<R: Rater>(
-    tally: &mut Tally<R::Value>,
+    tally: &mut RunningTally<R::Value>,
     rater: &R,
     rows: Rows,
     bars: &[Bar],
@@ -57,7 +57,7 @@ fn finish_slot<R: Rater>(
 
 /// The same in all slots.
 pub fn finish<R: Rater>(
-    tally: &mut Tally<R::Value>,
+    tally: &mut RunningTally<R::Value>,
     rater: &R,
     rows: Rows,
     bars: &[Bar],

@@ -17,7 +17,7 @@ use crate::moment::Kind;
 use crate::pair::Rows;
 use rc_fixed::NoMemory;
 use rc_rules::Rater;
-use rc_tally::Tally;
+use rc_sums::RunningTally;
 
 /// Notes the layers with metal over a bar's highest square.
 fn note(bar: &Bar, count: usize, span: Span, now: &[u32], under: &mut [u32])
@@ -72,7 +72,7 @@ fn cover(bar: &Bar, number: u32, count: usize, span: Span, top: &mut [u32])
 
 /// One event: in each slot that its bar is over the state makes a step, and what the step adds is entered.
 pub fn apply<R: Rater>(
-    tally: &mut Tally<R::Value>,
+    tally: &mut RunningTally<R::Value>,
     rater: &R,
     rows: Rows,
     bars: &[Bar],

@@ -20,12 +20,12 @@ use crate::rest::finish;
 use crate::step::apply;
 use rc_fixed::NoMemory;
 use rc_rules::Rater;
-use rc_tally::Tally;
+use rc_sums::RunningTally;
 use std::alloc::Global;
 
 /// All events, one after another: each slot comes to where its own events lead, and what they add is entered.
 fn run<R: Rater>(
-    tally: &mut Tally<R::Value>,
+    tally: &mut RunningTally<R::Value>,
     rater: &R,
     rows: Rows,
     bars: &[Bar],
@@ -77,7 +77,7 @@ fn run<R: Rater>(
 
 /// All events, and what is left when they are done.
 fn run_through<R: Rater>(
-    tally: &mut Tally<R::Value>,
+    tally: &mut RunningTally<R::Value>,
     rater: &R,
     rows: Rows,
     bars: &[Bar],
@@ -110,7 +110,7 @@ fn run_through<R: Rater>(
 /// Enters what the slots add: what the events of their bars do, and what is left.
 pub fn sweep_slots<R: Rater>(
     alloc: Global,
-    tally: &mut Tally<R::Value>,
+    tally: &mut RunningTally<R::Value>,
     rater: &R,
     rows: Rows,
     bars: &[Bar],

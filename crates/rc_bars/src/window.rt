@@ -26,6 +26,7 @@ use rc_column::{end_line, end_place, first_line, first_place};
 use rc_fixed::NoMemory;
 use rc_geom::{Rect, Tile};
 use rc_rules::Rater;
+use rc_sums::RunningTally;
 use rc_tally::Tally;
 use std::alloc::Global;
 
@@ -54,7 +55,7 @@ fn rows_of(axis: usize, area: &Rect) -> Rows
 /// Enters what the faces of all lines of a rectangle add, by bars that stand for the columns of the tiles' plane.
 fn sweep_columns<R: Rater>(
     alloc: Global,
-    tally: &mut Tally<R::Value>,
+    tally: &mut RunningTally<R::Value>,
     tiles: &[Tile],
     axis: usize,
     rater: &R,
@@ -118,9 +119,9 @@ fn sweep_bars<const A: usize, R: Rater>(
     requires values { (key : Key) → R.Value.fits (value_in R.Value.adding (plane_of tiles.now) (R.rates_of rater.now) A area.now key) ≡ true }
     ensures sums { IfOk result (λ tally. IsWindowSum R.Value.adding (plane_of tiles.now) (R.rates_of rater.now) A area.now tally) }
 {
-    let mut tally = Tally::new(alloc);
+    let mut tally = RunningTally::new(alloc)?;
     sweep_columns(alloc, &mut tally, tiles, A, rater, area, bars)?;
-    Ok(tally)
+    tally.finish(alloc)
 }
 
 /// For each key, how many parts the faces of axis `A` add whose squares lie in the rectangle, and the sum of their amounts.

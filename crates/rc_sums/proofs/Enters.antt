@@ -119,30 +119,18 @@ key_added adding fits sound laws n amount o key is of_amount =
     ap (λ (k : Option Key). part_added adding n amount k key) is
     ∙ (part_worth adding fits sound laws n key key amount of_amount ∙ cond-true (same_key key key) (many adding n amount) ((sums adding).none) (same_itself key))
 
-pub part_fits : {V : Type 0} (adding : Adding V) (fits sound : V → Bool) → IsAmount adding fits sound → (a : List (Entry V)) (n : ℕ) (amount : V) (o : Option Key) (key : Key) → o ≡ Some key → sound amount ≡ true → HasRoom adding fits sound a (part_added adding n amount o) → fits (adding.plus (sum_at adding a key).value (repeated adding n amount)) ≡ true
-part_fits {V = W} adding fits sound laws a n amount o key is of_amount room =
-    let whole : sum_fits fits ((sums adding).plus (sum_at adding a key) (many adding n amount)) ≡ true =
-    ap (λ (s : Sum W). sum_fits fits ((sums adding).plus (sum_at adding a key) s)) (sym (key_added adding fits sound laws n amount o key is of_amount)) ∙ room.all_fit key in
-    (and_parts (nat_lt ((sum_at adding a key).count + n) (2 ^ 64)) (fits (adding.plus (sum_at adding a key).value (repeated adding n amount))) whole).1
+-- where there is room for a part, it fits beside its key's sum
+pub part_room : {V : Type 0} (adding : Adding V) (fits sound : V → Bool) → IsAmount adding fits sound → (a : List (Entry V)) (n : ℕ) (amount : V) (o : Option Key) (key : Key) → o ≡ Some key → sound amount ≡ true → HasRoom adding fits sound a (part_added adding n amount o) → sum_fits fits ((sums adding).plus (sum_at adding a key) (many adding n amount)) ≡ true
+part_room {V = W} adding fits sound laws a n amount o key is of_amount room =
+    ap (λ (s : Sum W). sum_fits fits ((sums adding).plus (sum_at adding a key) s)) (sym (key_added adding fits sound laws n amount o key is of_amount)) ∙ room.all_fit key
+
+part_fits : {V : Type 0} (adding : Adding V) (fits sound : V → Bool) → IsAmount adding fits sound → (a : List (Entry V)) (n : ℕ) (amount : V) (o : Option Key) (key : Key) → o ≡ Some key → sound amount ≡ true → HasRoom adding fits sound a (part_added adding n amount o) → fits (adding.plus (sum_at adding a key).value (repeated adding n amount)) ≡ true
+part_fits adding fits sound laws a n amount o key is of_amount room =
+    (and_parts (nat_lt ((sum_at adding a key).count + n) (2 ^ 64)) (fits (adding.plus (sum_at adding a key).value (repeated adding n amount))) (part_room adding fits sound laws a n amount o key is of_amount room)).1
 
 pub times_fits : {V : Type 0} (adding : Adding V) (fits sound : V → Bool) → IsAmount adding fits sound → (a : List (Entry V)) (n : ℕ) (amount : V) (o : Option Key) (key : Key) → o ≡ Some key → sound amount ≡ true → IsTally adding sound a → HasRoom adding fits sound a (part_added adding n amount o) → fits (repeated adding n amount) ≡ true
 times_fits adding fits sound laws a n amount o key is of_amount tally room =
     (laws.parts (sum_at adding a key).value (repeated adding n amount) (tally.all_sound key) (repeated_sound adding sound laws.additive.neutral n amount of_amount) (part_fits adding fits sound laws a n amount o key is of_amount room)).1
-
-pub count_fits : {V : Type 0} (adding : Adding V) (fits sound : V → Bool) → IsAmount adding fits sound → (a : List (Entry V)) (n : ℕ) (amount : V) (o : Option Key) (key : Key) → o ≡ Some key → sound amount ≡ true → HasRoom adding fits sound a (part_added adding n amount o) → (sum_at adding a key).count + n < 2 ^ 64
-count_fits {V = W} adding fits sound laws a n amount o key is of_amount room =
-    let whole : sum_fits fits ((sums adding).plus (sum_at adding a key) (many adding n amount)) ≡ true =
-    ap (λ (s : Sum W). sum_fits fits ((sums adding).plus (sum_at adding a key) s)) (sym (key_added adding fits sound laws n amount o key is of_amount)) ∙ room.all_fit key in
-    ltb-true ((sum_at adding a key).count + n) (2 ^ 64) (and_parts (nat_lt ((sum_at adding a key).count + n) (2 ^ 64)) (fits (adding.plus (sum_at adding a key).value (repeated adding n amount))) whole).0
-
--- what fits beside a key's sum fits beside its entry
-pub value_beside : {V : Type 0} (adding : Adding V) (fits : V → Bool) (o : Option (Entry V)) (v : V) → fits (adding.plus (option_map_or sum_of o ((sums adding).none)).value v) ≡ true → IfSome o (λ e. fits (adding.plus e.value v) ≡ true)
-value_beside adding fits None v h = record {}
-value_beside adding fits (Some e) v h = h
-
-pub count_beside : {V : Type 0} (adding : Adding V) (o : Option (Entry V)) (n : ℕ) → (option_map_or sum_of o ((sums adding).none)).count + n < 2 ^ 64 → IfSome o (λ e. e.count + n < 2 ^ 64)
-count_beside adding None n h = record {}
-count_beside adding (Some e) n h = h
 
 pub part_enters : {V : Type 0} (adding : Adding V) (fits sound : V → Bool) → IsAmount adding fits sound → (before after : List (Entry V)) (n : ℕ) (amount : V) (o : Option Key) (key : Key) → o ≡ Some key → sound amount ≡ true → 1 ≤ n → IsTally adding sound before → Grows adding before after key (many adding n amount) → Enters adding sound before after (part_added adding n amount o)
 part_enters adding fits sound laws before after n amount o key is of_amount some tally grows =

@@ -1,6 +1,7 @@
 -- The tally of a window.
-use Rattle.std.proofs.Common.{◌≡◌, ◌<◌, ◌^◌, ℕ, Bool, true, List, [], ap, sym, ◌∙◌, subst}
-use Rattle.std.specs.Prelude.{nat_lt}
+use Rattle.std.proofs.Common.{◌≡◌, ◌<◌, ◌≤◌, ◌^◌, ℕ, Bool, true, List, [], ap, sym, ◌∙◌, subst}
+use Rattle.std.specs.Prelude.{Option, IfSome, nat_lt}
+use Rattle.std.specs.Option.{option_map_or}
 use Rattle.std.proofs.lemmas.Bool.{lt-ltb, and_from}
 use Rattle.rc_geom.specs.declared.key.Key.{Key}
 use Rattle.rc_geom.specs.declared.rect.Rect.{Rect}
@@ -10,7 +11,7 @@ use Rattle.rc_geom.specs.Sums.{Adding, first_line, end_line, first_place, end_pl
 use Rattle.rc_geom.specs.Extraction.{value_in, count_in}
 use Rattle.rc_tally.specs.declared.entry.Entry.{Entry}
 use Rattle.rc_tally.specs.Amounts.{IsAmount}
-use Rattle.rc_tally.specs.Tallies.{Sum, sums, sum_fits, sum_sound, sum_at}
+use Rattle.rc_tally.specs.Tallies.{Sum, sums, sum_fits, sum_sound, sum_of, sum_at, entry_at}
 use Rattle.rc_sums.specs.Entering.{one, IsTally, HasRoom, Enters}
 use Rattle.rc_sums.specs.Worths.{columns_added}
 use Rattle.rc_sums.specs.WindowSums.{IsWindowSum}
@@ -53,4 +54,14 @@ window_sum {V = W} adding fits sound laws before after none plane rates axis r e
       count = λ q. ap (λ (s : Sum W). s.count) (is q) ∙ count_of_columns adding plane rates axis r q;
       value = λ q. ap (λ (s : Sum W). s.value) (is q) ∙ value_of_columns adding sound laws.additive plane rates axis r q each;
       some = enters.tally.some;
+    }
+
+-- a tally with the same entry for each key has the same sums
+pub window_same : {V : Type 0} (adding : Adding V) (plane : Plane) (rates : Rates V) (axis : ℕ) (r : Rect) (a b : List (Entry V)) → IsWindowSum adding plane rates axis r a → ((q : Key) → entry_at b q ≡ entry_at a q) → IsWindowSum adding plane rates axis r b
+window_same {V = W} adding plane rates axis r a b of_a same =
+    let is : (q : Key) → sum_at adding b q ≡ sum_at adding a q = λ q. ap (λ (o : Option (Entry W)). option_map_or sum_of o ((sums adding).none)) (same q) in
+    record {
+      count = λ q. ap (λ (s : Sum W). s.count) (is q) ∙ of_a.count q;
+      value = λ q. ap (λ (s : Sum W). s.value) (is q) ∙ of_a.value q;
+      some = λ q. subst (λ (o : Option (Entry W)). IfSome o (λ e. 1 ≤ e.count)) (sym (same q)) (of_a.some q);
     }

@@ -14,11 +14,11 @@ ghost use Rattle.rc_sums.specs.Entering.{one, IsTally, HasRoom, Enters};
 ghost use Rattle.rc_sums.specs.Worths.{columns_added};
 
 use crate::enter::enter_column;
+use crate::running::RunningTally;
 use rc_column::{Edits, Mark, Stack, crosses_line, end_line, first_line, next_line};
 use rc_fixed::{List, NoMemory};
 use rc_geom::{Rect, Tile};
 use rc_rules::Rater;
-use rc_tally::Tally;
 use std::alloc::Global;
 
 /// The next line behind one that isn't like it, or else `end`.
@@ -176,7 +176,7 @@ fn advance(stack: &mut Stack, tiles: &[Tile], next: Mark, edits: &mut Edits) -> 
 /// Enters what the lines of a rectangle add from the column's one to before the next one that isn't like it, or before
 /// `end`. Answers that line.
 fn enter_strip<R: Rater>(
-    tally: &mut Tally<R::Value>,
+    tally: &mut RunningTally<R::Value>,
     stack: &Stack,
     tiles: &[Tile],
     end: Mark,
@@ -208,7 +208,7 @@ fn enter_strip<R: Rater>(
 /// Enters what the faces of all lines of a rectangle add.
 pub fn sweep_lines<const A: usize, R: Rater>(
     alloc: Global,
-    tally: &mut Tally<R::Value>,
+    tally: &mut RunningTally<R::Value>,
     tiles: &[Tile],
     rater: &R,
     area: &Rect,

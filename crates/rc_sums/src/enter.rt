@@ -16,11 +16,11 @@ ghost use Rattle.rc_sums.specs.Entering.{many, IsTally, HasRoom, Enters};
 
 use crate::keys::{own_key, seen_key};
 use crate::part::enter_part;
+use crate::running::RunningTally;
 use rc_column::{Face, Stack, end_place as end_of, first_place as first_of};
 use rc_fixed::{List, NoMemory};
 use rc_geom::Rect;
 use rc_rules::{Rate, Rater};
-use rc_tally::Tally;
 
 /// The amounts of a face of a column.
 fn rate_of<R: Rater>(stack: &Stack, rater: &R, layer: u8, face: &Face) -> Rate<R::Value>
@@ -36,7 +36,7 @@ fn rate_of<R: Rater>(stack: &Stack, rater: &R, layer: u8, face: &Face) -> Rate<R
 
 /// Enters what a face adds, so many times.
 fn enter_face<R: Rater>(
-    tally: &mut Tally<R::Value>,
+    tally: &mut RunningTally<R::Value>,
     stack: &Stack,
     rater: &R,
     layer: u8,
@@ -66,7 +66,7 @@ fn stands_in(face: &Face, axis: usize, area: &Rect) -> bool
 
 /// Enters what a face adds, so many times, where its square lies in the rectangle.
 fn enter_within<R: Rater>(
-    tally: &mut Tally<R::Value>,
+    tally: &mut RunningTally<R::Value>,
     stack: &Stack,
     rater: &R,
     layer: u8,
@@ -91,7 +91,7 @@ fn enter_within<R: Rater>(
 
 /// Enters what the faces of a list add, so many times each, where their squares lie in the rectangle.
 fn enter_faces<R: Rater>(
-    tally: &mut Tally<R::Value>,
+    tally: &mut RunningTally<R::Value>,
     stack: &Stack,
     rater: &R,
     layer: u8,
@@ -115,7 +115,7 @@ fn enter_faces<R: Rater>(
 
 /// Enters what the faces of a layer add whose squares lie in the rectangle, so many times each.
 fn enter_line<R: Rater>(
-    tally: &mut Tally<R::Value>,
+    tally: &mut RunningTally<R::Value>,
     stack: &Stack,
     rater: &R,
     layer: u8,
@@ -145,7 +145,7 @@ fn is_bare(stack: &Stack, layer: u8) -> bool
 
 /// The same of a layer that may have neither metal nor rules.
 fn enter_layer<R: Rater>(
-    tally: &mut Tally<R::Value>,
+    tally: &mut RunningTally<R::Value>,
     stack: &Stack,
     rater: &R,
     layer: u8,
@@ -169,7 +169,7 @@ fn enter_layer<R: Rater>(
 
 /// Enters what the faces of a column add whose squares lie in the rectangle, so many times each.
 pub fn enter_column<R: Rater>(
-    tally: &mut Tally<R::Value>,
+    tally: &mut RunningTally<R::Value>,
     stack: &Stack,
     rater: &R,
     area: &Rect,

@@ -5,13 +5,14 @@ ghost use Rattle.rc_geom.specs.Parts.{part_for, worth_at};
 ghost use Rattle.rc_tally.specs.Tallies.{sums};
 ghost use Rattle.rc_sums.specs.Entering.{many, IsTally, HasRoom, Enters};
 
+use crate::running::RunningTally;
 use rc_fixed::NoMemory;
 use rc_geom::Key;
-use rc_tally::{Amount, Tally};
+use rc_tally::Amount;
 
 /// Enters an amount so many times, where there is a key for it.
 pub fn enter_part<V: Amount>(
-    tally: &mut Tally<V>,
+    tally: &mut RunningTally<V>,
     key: Option<Key>,
     amount: V,
     n: u32,

@@ -9,6 +9,7 @@ ghost use Rattle.rc_geom.specs.Extraction.{value_in, count_in};
 ghost use Rattle.rc_sums.specs.WindowSums.{IsWindowSum};
 
 use crate::active::sweep_lines;
+use crate::running::RunningTally;
 use rc_column::Edits;
 use rc_fixed::NoMemory;
 use rc_geom::{Rect, Tile};
@@ -44,7 +45,7 @@ pub fn sum_by_columns<const A: usize, R: Rater>(
     ensures edits { edits.new ≤ edits.old + 2 * length tiles.now }
     ensures kept { edits.old ≤ edits.new }
 {
-    let mut tally = Tally::new(alloc);
+    let mut tally = RunningTally::new(alloc)?;
     sweep_lines::<A, R>(alloc, &mut tally, tiles, rater, area, edits)?;
-    Ok(tally)
+    tally.finish(alloc)
 }
