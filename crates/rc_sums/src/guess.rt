@@ -5,7 +5,7 @@ use rc_geom::Key;
 use std::alloc::Global;
 
 /// How many places are remembered.
-const SLOTS: usize = 4096;
+const SLOTS: usize = 512;
 
 /// An odd number whose bits look random, for mixing.
 const MIXER: u64 = 0x9E37_79B9_7F4A_7C15;
@@ -33,7 +33,7 @@ pub(crate) fn slot_of(key: Key) -> usize {
             onode,
         } => mixed(mixed(mixed(mixed(1, net), node), other), onode),
     };
-    (sum >> 52) as usize
+    (sum >> 55) as usize
 }
 
 impl Guesses {

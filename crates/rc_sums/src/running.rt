@@ -13,6 +13,9 @@ use rc_tally::{Amount, Entry, Tally};
 use std::alloc::Global;
 use std::marker::Model;
 
+/// For how many parts there is room from the start.
+const ROOM: usize = 128;
+
 /// Sums of amounts that parts are still added to, each with how many parts it is of.
 ///
 /// Contracts see a list with one entry for each key. What is kept is a list of parts, in which a key may stand more than
@@ -66,7 +69,7 @@ impl<V: Amount> RunningTally<V> {
     {
         let places = Guesses::new(alloc)?;
         Ok(RunningTally {
-            parts: Vec::new(alloc),
+            parts: Vec::with_capacity(alloc, ROOM)?,
             places,
         })
     }
