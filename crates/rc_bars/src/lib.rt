@@ -16,6 +16,7 @@ mod listing;
 mod look;
 mod mask;
 mod moment;
+mod open;
 mod order;
 mod pair;
 mod place;
