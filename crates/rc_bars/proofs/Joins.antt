@@ -94,9 +94,9 @@ record IsOther (old : List Bar) (a b c : Bar) : Type 0 where
 other_has : (old new : List Bar) (k n j : ℕ) (a b d : Bar) → AreTwo old k n a b → HasPlace old new k n j d → IsOther old a b (get_or new j d)
 other_has old new k n j a b d two p =
     let other : p.place ≢ n = λ is. ⊎_elim
-        (λ (low : (p.place ≡ j) × (j < n)). let same = low.0 in let less = low.1 in omega (arith, same, is))
-        (λ (high : (p.place ≡ j + 1) × (n ≤ j)). let same = high.0 in let more = high.1 in omega (arith, same, is))
-        p.at.is
+    (λ (low : (p.place ≡ j) × (j < n)). let same = low.0 in let less = low.1 in omega (arith, same, is))
+    (λ (high : (p.place ≡ j + 1) × (n ≤ j)). let same = high.0 in let more = high.1 in omega (arith, same, is))
+    p.at.is
     in
     record {
       member = (p.place, p.within, get_or_default old p.place (get_or new j d) d p.within ∙ sym p.same);
